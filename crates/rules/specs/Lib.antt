@@ -1,0 +1,9 @@
+pub mod Numbers
+pub mod Refusals
+pub mod Utf8
+pub mod Map
+pub mod Cells
+pub mod Nodes
+pub mod Datum
+pub mod Heap
+pub mod Put
