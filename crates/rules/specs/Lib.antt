@@ -7,3 +7,14 @@ pub mod Nodes
 pub mod Datum
 pub mod Heap
 pub mod Put
+pub mod Layout
+pub mod Sound
+pub mod Read
+pub mod Equal
+pub mod R7rs
+pub mod Collect
+pub mod Calls
+pub mod Text
+pub mod Sheet
+pub mod Listing
+pub mod Readings

@@ -45,7 +45,7 @@ pub data Test : Type 0 where
   _⇒_ : Bool → Refusal → Test
 
 -- "Where several apply the first in table order is given": the tests in that order, and what is answered if none holds
-unfoldable pub unless : {A : Type 0} → List Test → A → (Refusal → A) → A
+unfoldable pub unless {ℓ} : {A : Type ℓ} → List Test → A → (Refusal → A) → A
 unless [] a refuse = a
 unless ((true ⇒ r) ∷ ts) a refuse = refuse r
 unless ((false ⇒ r) ∷ ts) a refuse = unless ts a refuse
