@@ -73,20 +73,25 @@ unfoldable pub field : {A : Type 0} → ℕ → (ℕ → List ℕ → Reading A)
 unfolding part basics
 field w next bs = part w (λ b. next (big b)) bs
 
+-- bytes that must be UTF-8
+unfoldable pub checked-text : {A : Type 0} → (List ℕ → A) → List ℕ → List ℕ → Reading A
+unfolding utf8-rules
+checked-text made t rest = choose (utf8 t) (reads (made t) rest) (faulty bad-utf8)
+
 -- a length, and as many bytes of UTF-8
 unfoldable pub text : {A : Type 0} → (List ℕ → A) → List ℕ → Reading A
-unfolding field part utf8-rules
-text made bs = field 4 (λ n. part n (λ t rest. choose (utf8 t) (reads (made t) rest) (faulty bad-utf8))) bs
+unfolding field part checked-text
+text made bs = field 4 (λ n. part n (checked-text made)) bs
 
-read-plain : Scalar → List ℕ → Reading Node
+unfoldable pub read-plain : Scalar → List ℕ → Reading Node
 read-plain s bs = reads (atom (plain s)) bs
 
-bool-node : ℕ → List ℕ → Reading Node
+unfoldable pub bool-node : ℕ → List ℕ → Reading Node
 bool-node zero rest = reads (atom (plain (bool false))) rest
 bool-node (suc zero) rest = reads (atom (plain (bool true))) rest
 bool-node (suc (suc n)) rest = faulty bad-bool
 
-char-node : ℕ → List ℕ → Reading Node
+unfoldable pub char-node : ℕ → List ℕ → Reading Node
 unfolding utf8-rules
 char-node n rest = choose (scalar-value n) (reads (atom (plain (char n))) rest) (faulty bad-char)
 
@@ -147,6 +152,6 @@ node-fits (vector n) = ltb n bits32
 node-fits (def l) = ltb l bits32
 
 unfoldable pub nodes-rules : Unit {0}
-unfolding write-text write-scalar write-atom write-node part field text read-plain bool-node char-node kinds read-node
+unfolding write-text write-scalar write-atom write-node part field checked-text text read-plain bool-node char-node kinds read-node
     bytes text-fits scalar-fits node-fits
 nodes-rules = tt
