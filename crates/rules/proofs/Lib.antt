@@ -1,3 +1,4 @@
 pub mod Readings
 pub mod Nodes
 pub mod Datum
+pub mod LentLaws
