@@ -27,7 +27,7 @@ either false b = b
 abbrev pub between : ℕ → ℕ → ℕ → Bool
 between a b n = both (leb a n) (leb n b)
 
--- the test holds of every number below n, of some number below n
+-- the test holds of every number below n
 unfoldable pub every-below : ℕ → (ℕ → Bool) → Bool
 every-below zero f = true
 every-below (suc n) f = both (f n) (every-below n f)

@@ -3,12 +3,13 @@
 use mathlib.Core.Path.{_≡_, refl, sym, ap, _∙_, subst}
 use mathlib.Core.Bool.{Bool, true, false}
 use mathlib.Core.List.{List, [], _∷_, _++_, map, reverse, reverse-reverse}
-use Prim.Native.Nat.{ℕ, zero, suc, _+_, _-_, _*_, _/_, _≤_, _<_}
+use Prim.Native.Nat.{ℕ, zero, suc, _+_, _-_, _*_, _/_, _%_, _≤_, _<_}
 use native.Mathlib.Omega.{arith}
+use native.Mathlib.Decide.{decLt}
 use borrow.Author.Tests.{eq-eqb, ne-eqb}
 use lib.Dec.{eqb}
 use lib.ListN.{length, getD, take, drop, length-append, length-reverse, List·getD-append}
-use lib.Seq.{take-at, getD-append-add}
+use lib.Seq.{take-at, getD-append-add, ext-getD}
 use Rattle.laws.specs.Basics.{choose, both, join, rising, zeros, same, basics}
 use Rattle.laws.proofs.Tests.{both-true, same-refl}
 use Rattle.laws.proofs.Lists.{length-zeros, getD-zeros, length-rising, getD-rising, told-again, length-rows, getD-rows}
@@ -115,6 +116,31 @@ module _ (slots : ℕ) (h : Heap) where
   column-word i k =
       ap (λ (n : ℕ). getD (row-words h i) (n + k) 0) (sym (cell-width (cell-at h i)))
       ∙ getD-append-add (cell-words (cell-at h i)) _ k 0
+
+-- an index of the words is one of the header or of a row
+pub record Placed (n : ℕ) : Type 0 where
+  pub row : ℕ
+  pub column : ℕ
+  pub low : column < 8
+  pub place : n ≡ 8 + 8 * row + column
+
+pub placed : (n : ℕ) → 8 ≤ n → Placed n
+placed n h = record { row = (n - 8) / 8; column = (n - 8) % 8; low = omega arith; place = omega arith }
+
+-- words that have a heap's header and its rows are that heap's words
+pub words-again : (slots : ℕ) (h : Heap) (ws : List ℕ) → length ws ≡ 8 + 8 * slots → ((k : ℕ) → k < 8 → getD ws k 0 ≡ getD (header-words h) k 0) → ((i k : ℕ) → i < slots → k < 8 → getD ws (8 + 8 * i + k) 0 ≡ getD (row-words h i) k 0) → ws ≡ words-of slots h
+unfolding layout-rules
+words-again slots h ws size heads rows =
+    ext-getD 0 ws (words-of slots h) (size ∙ sym (words-length slots h))
+    (λ n small.
+    elim (decLt n 8) [
+      | yes low ↦ heads n low ∙ sym (List·getD-append (header-words h) (join (row-words h) (rising 0 slots)) 0 n low)
+      | no high ↦
+          let p = placed n (omega arith) in
+          let fits : p .row < slots = omega (arith, p .place, p .low) in
+          ap (λ (m : ℕ). getD ws m 0) (p .place) ∙ rows (p .row) (p .column) fits (p .low)
+          ∙ sym (word-at slots h (p .row) (p .column) fits (p .low)) ∙ ap (λ (m : ℕ). getD (words-of slots h) m 0) (sym (p .place))
+    ])
 
 -- ---- rooms with zeros after what is in use
 

@@ -6,10 +6,10 @@ use mathlib.Core.List.{List, [], _∷_, _++_}
 use mathlib.Core.Option.{some}
 use Rattle.laws.specs.Basics.{ascii, basics}
 use Rattle.rules.specs.Refusals.{accepted, refused, no-slots}
-use Rattle.rules.specs.Cells.{undefined, number, Cell, plain, pair}
+use Rattle.rules.specs.Cells.{undefined, number, Cell, plain, pair, vector, block}
 use Rattle.rules.specs.Nodes.{Atom}
 use Rattle.rules.specs.Datum.{Datum}
-use Rattle.rules.specs.Readings.{Result, answers, sizes, cell, free-list, text, read-back, byte, equals, same-object, readings, readings-rules, num, ring}
+use Rattle.rules.specs.Readings.{Result, answers, sizes, taken, free-list, text, read-back, byte, equals, same-object, readings, readings-rules, num, ring}
 
 -- 1 chunk 4, lent 8: slots 0,1,2,3,7. 2 lent 7: the fifth is 16. 3 lent 24: sizes 4, 8, 12, 20, then 16. 4 (1 . 2) fresh:
 -- pair at 2 of (0,1). 5 #(1 2): slot 0 only. 6 #0=#0#: slot 0, Undefined. 7 the listing. 8 then collecting root 0: list
@@ -21,9 +21,9 @@ paper =
     answers (accepted 0 ∷ accepted 1 ∷ accepted 2 ∷ accepted 3 ∷ accepted 7 ∷ [])
     ∷ answers (accepted 0 ∷ accepted 1 ∷ accepted 2 ∷ accepted 3 ∷ refused no-slots ∷ [])
     ∷ sizes (4 ∷ 4 ∷ 4 ∷ 4 ∷ 8 ∷ 8 ∷ 8 ∷ 8 ∷ 12 ∷ 12 ∷ 12 ∷ 12 ∷ 20 ∷ 20 ∷ 20 ∷ 20 ∷ 20 ∷ 20 ∷ 20 ∷ 20 ∷ []) (refused no-slots)
-    ∷ cell 2 (pair 0 1)
-    ∷ free-list (0 ∷ 1 ∷ 2 ∷ 3 ∷ [])
-    ∷ cell 0 (plain undefined)
+    ∷ taken 2 (pair 0 1) (3 ∷ [])
+    ∷ taken 0 (vector (block 0 2)) (1 ∷ 2 ∷ 3 ∷ [])
+    ∷ taken 0 (plain undefined) (1 ∷ 2 ∷ 3 ∷ [])
     ∷ text
     (ascii "root=0\ncapacity=4\nfree=1\nfreelist=3\nslot0=pair:1,0\nslot1=num:1\nslot2=pair:1,0\nslot3=free\n")
     ∷ free-list (2 ∷ 3 ∷ [])

@@ -1,5 +1,5 @@
 -- Every public call, as one definition from the lent lists at entry to the answer and the lent lists at exit, refusals in
--- the order of document 01's table. "A refusal answers its number only, and leaves heap and output as they stood."
+-- the order of document 01's table. A list that a call is lent only to read has no value at exit here: it stays as it is. "A refusal answers its number only, and leaves heap and output as they stood."
 -- "On return scratch is all zero, except after 19 or 20, which leave it untouched." Assumes nothing.
 use mathlib.Core.Path.{_≡_}
 use mathlib.Core.Bool.{Bool, true, false, not}
@@ -203,25 +203,23 @@ pub record Equal-left : Type 0 where
   pub answer : Answer Bool
   pub scratch : List ℕ
 
--- the answer is yes or no as `Equal` says; `truth` is that answer
-unfoldable pub equal-values : Heap → List ℕ → Value → Value → Bool → Equal-left
-unfolding refusals value-in-use map-rules cleared
-equal-values h scratch v w truth =
+-- the answer for two values that may be compared is the one that `Equal` says
+unfoldable pub Equal-values : Heap → List ℕ → Value → Value → Equal-left → Type 0
+unfolding refusals equal-rules value-in-use map-rules cleared
+Equal-values h scratch v w r =
     unless ((not (both (value-in-use h v) (value-in-use h w)) ⇒ no-such-slot) ∷ [])
-    (record { answer = accepted truth; scratch = cleared scratch })
-    (λ r. record { answer = refused r; scratch = cleared scratch })
+    ((truth : Bool) × Equal h v w truth × (r ≡ record { answer = accepted truth; scratch = cleared scratch }))
+    (λ n. r ≡ record { answer = refused n; scratch = cleared scratch })
 
--- what the call leaves is the one that the truth of `equal` on the two values gives
 unfoldable pub Equal-call : Lent → List ℕ → ℕ → ℕ → ℕ → ℕ → Equal-left → Type 0
-unfolding refusals sound-rules layout-rules equal-rules given-value of-answer equal-values cleared
+unfolding refusals sound-rules layout-rules given-value of-answer Equal-values cleared
 Equal-call l scratch kind a kind′ a′ r =
-    let h = heap-of l in
     unless
     ((not (sound l) ⇒ unsound) ∷ (ltb (length scratch) (scratch-words (capacity (heap-of l))) ⇒ short-scratch) ∷ [])
     (of-answer (given-value kind a)
     (λ v.
     of-answer (given-value kind′ a′)
-    (λ w. (truth : Bool) × Equal h v w truth × (r ≡ equal-values h scratch v w truth))
+    (λ w. Equal-values (heap-of l) scratch v w r)
     (λ n. r ≡ record { answer = refused n; scratch = cleared scratch }))
     (λ n. r ≡ record { answer = refused n; scratch = cleared scratch }))
     (λ n. r ≡ record { answer = refused n; scratch = scratch })
@@ -337,6 +335,6 @@ used-call l = count-call used-count l
 
 unfoldable pub call-rules : Unit {0}
 unfolding cleared checked given-bool given-char given-scalar of-answer given-value given-cell value-in-use cell-in-use setup put-tree
-    put-call read-value read-call eqv-call equal-values Equal-call collect-call cell-store element-place store-element
+    put-call read-value read-call eqv-call Equal-values Equal-call collect-call cell-store element-place store-element
     element-store text-in text-call text-part text-told count-call capacity-call free-call used-call
 call-rules = tt

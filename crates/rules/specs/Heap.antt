@@ -34,7 +34,7 @@ capacity h = length (h .cells)
 abbrev pub cell-at : Heap → ℕ → Cell
 cell-at h s = getD (h .cells) s (plain undefined)
 
--- the slot is below the capacity and not Free
+-- the slot is below the capacity and Allocated; in a sound heap the others are Free
 abbrev pub in-use : Heap → ℕ → Bool
 in-use h s = both (ltb s (capacity h)) (is-allocated (h .map) s)
 
@@ -131,7 +131,7 @@ with-entry h e =
 unfoldable pub grown : ℕ → ℕ → ℕ
 grown chunk size = (3 * (size / chunk) + 1) / 2 * chunk
 
--- the steps that growth can take: from 4 slots it passes 4,096 with the seventeenth
+-- the steps that growth can take: from one chunk of 4 slots the sixteenth passes 4,096
 abbrev pub most-growths : ℕ
 most-growths = 32
 

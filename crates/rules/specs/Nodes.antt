@@ -95,7 +95,7 @@ unfoldable pub char-node : ℕ → List ℕ → Reading Node
 unfolding utf8-rules
 char-node n rest = choose (scalar-value n) (reads (atom (plain (char n))) rest) (faulty bad-char)
 
--- how the bytes after a kind's number are read, by that number; "a number above the known kinds is an unknown kind"
+-- how the bytes after a kind's number are read, by that number; a number above these is an unknown kind
 unfoldable pub kinds : List (List ℕ → Reading Node)
 unfolding read-plain bool-node char-node field text basics
 kinds =

@@ -128,7 +128,7 @@ unfoldable mutual
   put-all end k m = m
   put-all (more d ds) k m = put-all ds (suc k) (store-at k (put d m))
 
--- one put: "Labels do not outlive their put"
+-- one put: its labels begin and end with it, "Within one put the latest definition of a label counts"
 unfoldable pub put-datum : Datum → Heap → Put
 unfolding put put-all in-slot
 put-datum d h = in-slot (put d (making h []))

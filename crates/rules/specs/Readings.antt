@@ -77,7 +77,7 @@ ring = Datum.def 0 (Datum.pair (num 1) (Datum.atom (Atom.ref 0)))
 pub data Result : Type 0 where
   answers : List (Answer ℕ) → Result
   sizes : List ℕ → Answer ℕ → Result
-  cell : ℕ → Cell → Result
+  taken : ℕ → Cell → List ℕ → Result
   free-list : List ℕ → Result
   text : List ℕ → Result
   read-back : Option Datum → Result
@@ -85,21 +85,26 @@ pub data Result : Type 0 where
   equals : Option Bool → Result
   same-object : Bool → Result
 
+-- where a datum was put in a fresh heap, the cell there, and the free list afterwards
+unfoldable pub put-fresh : Datum → Result
+unfolding after root
+put-fresh d = taken (root d) (cell-at (after d) (root d)) (after d .free)
+
 -- the answer that came last
 unfoldable pub last : Answer ℕ → List (Answer ℕ) → Answer ℕ
 last a [] = a
 last a (b ∷ bs) = last b bs
 
 unfoldable pub readings : List Result
-unfolding lent-fresh put-times sizes-after after root after-both second-root last map-rules read-rules equal-rules collect-rules
+unfolding lent-fresh put-times sizes-after put-fresh after-both second-root last map-rules read-rules equal-rules collect-rules
     listing-rules basics
 readings =
     answers (put-times 5 (lent-fresh 8))
     ∷ answers (put-times 5 (lent-fresh 7))
     ∷ sizes (sizes-after 20 (lent-fresh 24)) (last (Answer.accepted 0) (put-times 21 (lent-fresh 24)))
-    ∷ cell (root (Datum.pair (num 1) (num 2))) (cell-at (after (Datum.pair (num 1) (num 2))) 2)
-    ∷ free-list (root (Datum.vector (more (num 1) (more (num 2) end))) ∷ after (Datum.vector (more (num 1) (more (num 2) end))) .free)
-    ∷ cell (root (Datum.def 0 (Datum.atom (Atom.ref 0)))) (cell-at (after (Datum.def 0 (Datum.atom (Atom.ref 0)))) 0)
+    ∷ put-fresh (Datum.pair (num 1) (num 2))
+    ∷ put-fresh (Datum.vector (more (num 1) (more (num 2) end)))
+    ∷ put-fresh (Datum.def 0 (Datum.atom (Atom.ref 0)))
     ∷ text (printed (ascii "chunk=4\nslots=4\ndef=0\npair=\nnum=1\nref=0\nend=\n"))
     ∷ free-list (collect (0 ∷ []) (after ring) .free)
     ∷ read-back (reading (after ring) (slot 2))
