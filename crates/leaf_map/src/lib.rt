@@ -7,7 +7,9 @@ ghost use lib.ListN.{length};
 ghost use Rattle.rules.specs.Map.{Used, state-in, with-state, state-of, set-state, low-bits, set-low-bits};
 
 pub const FREE: u8 = 0;
+
 pub const ALLOCATED: u8 = 1;
+
 pub const USED: u8 = 2;
 
 // The two bits at one of a byte's four places.

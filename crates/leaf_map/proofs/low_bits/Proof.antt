@@ -1,15 +1,12 @@
+-- `leaf_map::low_bits`: the ones under the mask. Assumes nothing.
 use native.Mathlib.Omega.{arith}
 use Rattle.leaf_map.proofs.TwoBits.{masked-ones, low-bits-small}
 use Rattle.leaf_map.proofs.low_bits.Statement.{statement}
 use Rattle.leaf_map.proofs.low_bits.Tie as tie
-use Rattle.leaf_map.proofs.low_bits.Reads as reads
-use Rattle.leaf_map.proofs.low_bits.Lts as lts
 
--- src/lib.rt:71:5
 cast-result : tie.Need-cast-result
 cast-result c = record { fits = omega (arith, masked-ones (c .args .byte) (c .fits .byte .fits), low-bits-small (c .args .byte)) }
 
--- src/lib.rt:68:1
 returns : tie.Need-returns
 returns c = masked-ones (c .args .byte) (c .fits .byte .fits)
 

@@ -1,3 +1,4 @@
+-- `leaf_map::set`: one byte is stored. Assumes nothing.
 use Rattle.rules.specs.Map.{set-state}
 use lib.ListN.{set}
 use Prim.Native.Nat.{ℕ, _/_}
@@ -5,27 +6,19 @@ use mathlib.Core.Path.{ap}
 use borrow.Author.Needs.{needs}
 use Rattle.leaf_map.proofs.set.Statement.{statement}
 use Rattle.leaf_map.proofs.set.Tie as tie
-use Rattle.leaf_map.proofs.set.Reads as reads
-use Rattle.leaf_map.proofs.set.Lts as lts
-use Rattle.leaf_map.proofs.with_state.Reads as with-state-reads
 
--- src/lib.rt:50:26
 slice-read-with-state : tie.Need-slice-read-with-state
 slice-read-with-state c = search needs
 
--- src/lib.rt:50:15
 with-state-requires : tie.Need-with-state-requires
 with-state-requires c κs = search needs
 
--- src/lib.rt:50:5
 slice-write-map : tie.Need-slice-write-map
 slice-write-map c = search needs
 
--- src/lib.rt:44:1
 same-length : tie.Need-same-length
 same-length c = search needs
 
--- src/lib.rt:44:1
 returns : tie.Need-returns
 unfolding set-state
 returns c = ap (λ (b : ℕ). set (c .before .before .before .args .map .now) (c .before .before .before .args .slot / 4) b) (c .with-state .ensures)

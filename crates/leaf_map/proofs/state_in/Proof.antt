@@ -1,23 +1,18 @@
+-- `leaf_map::state_in`: a shift by twice the place. Assumes nothing.
 use Rattle.leaf_map.proofs.TwoBits.{shifted}
 use borrow.Author.Needs.{needs}
 use Rattle.leaf_map.proofs.state_in.Statement.{statement}
 use Rattle.leaf_map.proofs.state_in.Tie as tie
-use Rattle.leaf_map.proofs.state_in.Reads as reads
-use Rattle.leaf_map.proofs.state_in.Lts as lts
 
--- src/lib.rt:18:15
 mul-result : tie.Need-mul-result
 mul-result c = search needs
 
--- src/lib.rt:18:15
 cast-result : tie.Need-cast-result
 cast-result c = search needs
 
--- src/lib.rt:18:6
 shr-result : tie.Need-shr-result
 shr-result c = search needs
 
--- src/lib.rt:14:1
 returns : tie.Need-returns
 returns c = shifted (c .args .byte) (c .args .place) (c .pre)
 

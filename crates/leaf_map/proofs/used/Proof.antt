@@ -1,3 +1,4 @@
+-- `leaf_map::used`: what is counted and what is left to count make the whole. Assumes nothing.
 use lib.ListN.{getD}
 use native.Mathlib.Omega.{arith}
 use Rattle.leaf_map.proofs.TwoBits.{low-bits-small, low-bits-on, low-bits-done}
@@ -8,9 +9,6 @@ use Prim.Native.Nat.{_+_, _*_, _≤_, _-_}
 use borrow.Author.Needs.{needs}
 use Rattle.leaf_map.proofs.used.Statement.{statement}
 use Rattle.leaf_map.proofs.used.Tie as tie
-use Rattle.leaf_map.proofs.used.Reads as reads
-use Rattle.leaf_map.proofs.used.Lts as lts
-use Rattle.leaf_map.proofs.low_bits.Reads as low-bits-reads
 
 abbrev Inv-loop : tie.InvT-loop
 Inv-loop map n₀ i₀ n i = (i ≤ length map) × (n ≤ 4 * i) × (n + set-low-bits (drop i map) ≡ set-low-bits map)
@@ -18,35 +16,27 @@ Inv-loop map n₀ i₀ n i = (i ≤ length map) × (n ≤ 4 * i) × (n + set-low
 abbrev μ-loop : tie.MeasureT-loop
 μ-loop map n₀ i₀ n i = length map - i
 
--- src/lib.rt:80:5
 loop-holds : tie.Need-loop-holds Inv-loop μ-loop
 loop-holds c = search needs
 
--- src/lib.rt:81:23
 shared-slice-read-low-bits : tie.Need-shared-slice-read-low-bits Inv-loop μ-loop
 shared-slice-read-low-bits c = search needs
 
--- src/lib.rt:81:14
 low-bits-requires : tie.Need-low-bits-requires Inv-loop μ-loop
 low-bits-requires c κs = search needs
 
--- src/lib.rt:81:9
 add-n : tie.Need-add-n Inv-loop μ-loop
 add-n c = omega (arith, low-bits-small (getD (c .before .before .before .before .before .args .map .now) (c .before .before .before .loop .i) 0), c .low-bits .ensures)
 
--- src/lib.rt:82:9
 add-i : tie.Need-add-i Inv-loop μ-loop
 add-i c = search needs
 
--- src/lib.rt:80:5
 loop-less : tie.Need-loop-less Inv-loop μ-loop
 loop-less c = search needs
 
--- src/lib.rt:80:5
 loop-again : tie.Need-loop-again Inv-loop μ-loop
 loop-again c = (search needs, omega (arith, low-bits-small (getD (c .before .before .before .before .before .args .map .now) (c .before .before .before .loop .i) 0), c .low-bits .ensures), omega (arith, low-bits-on (c .before .before .before .before .before .args .map .now) (c .before .before .before .loop .i) (c .before .before .loop-test .taken), c .low-bits .ensures))
 
--- src/lib.rt:75:1
 returns : tie.Need-returns Inv-loop μ-loop
 returns c = omega (arith, low-bits-done (c .before .before .before .args .map .now) (c .before .loop .i) (c .loop-test .left))
 

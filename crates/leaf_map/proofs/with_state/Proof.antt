@@ -1,25 +1,19 @@
+-- `leaf_map::with_state`: the old bits are taken off, the new ones added. Assumes nothing.
 use borrow.Author.Needs.{needs}
 use native.Mathlib.Omega.{arith}
 use Rattle.leaf_map.proofs.TwoBits.{Exchanged, exchange}
 use Rattle.leaf_map.proofs.with_state.Statement.{statement}
 use Rattle.leaf_map.proofs.with_state.Tie as tie
-use Rattle.leaf_map.proofs.with_state.Reads as reads
-use Rattle.leaf_map.proofs.with_state.Lts as lts
-use Rattle.leaf_map.proofs.state_in.Reads as state-in-reads
 
--- src/lib.rt:27:24
 mul-unit : tie.Need-mul-unit
 mul-unit c = search needs
 
--- src/lib.rt:27:24
 cast-unit : tie.Need-cast-unit
 cast-unit c = search needs
 
--- src/lib.rt:27:16
 shl-unit : tie.Need-shl-unit
 shl-unit c = search needs
 
--- src/lib.rt:28:12
 state-in-requires : tie.Need-state-in-requires
 state-in-requires c κs = search needs
 
@@ -28,23 +22,18 @@ exchanged c =
     exchange (c .before .args .byte) (c .before .args .state) (c .state-in .result) (c .before .fits .byte .fits) (c .before .pre .1)
     (c .before .args .place) (c .before .pre .0) (c .state-in .ensures)
 
--- src/lib.rt:28:12
 mul-result : tie.Need-mul-result
 mul-result c = record { fits = omega (arith, exchanged c .old-within, c .before .fits .byte .fits) }
 
--- src/lib.rt:28:5
 sub-result : tie.Need-sub-result
 sub-result c = exchanged c .old-within
 
--- src/lib.rt:28:43
 mul-result-2 : tie.Need-mul-result-2
 mul-result-2 c = record { fits = exchanged c .new-below }
 
--- src/lib.rt:28:5
 add-result : tie.Need-add-result
 add-result c = record { fits = exchanged c .sum-below }
 
--- src/lib.rt:22:1
 returns : tie.Need-returns
 returns c = exchanged c .right
 
