@@ -1,3 +1,5 @@
 pub mod Tests
 pub mod Bytes
 pub mod Lists
+pub mod Below
+pub mod Sums

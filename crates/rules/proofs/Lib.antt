@@ -2,3 +2,4 @@ pub mod Readings
 pub mod Nodes
 pub mod Datum
 pub mod LentLaws
+pub mod TwoBits
