@@ -3,3 +3,4 @@ pub mod Nodes
 pub mod Datum
 pub mod LentLaws
 pub mod TwoBits
+pub mod SoundLaws
