@@ -1,6 +1,5 @@
 -- Sums over the numbers below n, and over lists. Assumes nothing.
-use mathlib.Core.Bool.{Bool, true, false}
-use mathlib.Core.Path.{_≡_, refl, sym, _∙_, ap}
+use mathlib.Core.Path.{_≡_, refl}
 use mathlib.Core.List.{List, [], _∷_, map}
 use Prim.Native.Nat.{ℕ, zero, suc, _+_, _<_, _≤_}
 use native.Mathlib.Nat.{le-of-suc-le-suc, not-suc-le-zero}
@@ -9,7 +8,7 @@ use native.Mathlib.Decide.{ℕ-discrete}
 use borrow.Author.Tests.{eq-eqb, ne-eqb}
 use lib.Dec.{T, eqb, ltb, ltb→lt}
 use lib.ListN.{length, getD, set}
-use Rattle.laws.specs.Basics.{both, choose, every, sum, count, basics}
+use Rattle.laws.specs.Basics.{choose, every, sum, count, basics}
 use Rattle.laws.proofs.Below.{both-left, both-right}
 
 -- f 0 + f 1 + .., n of them

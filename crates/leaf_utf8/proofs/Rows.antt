@@ -6,13 +6,12 @@ use mathlib.Core.List.{List, [], _∷_}
 use mathlib.Core.Option.{Option, none, some}
 use Prim.Native.Nat.{ℕ, zero, suc, _-_, _+_, _<_, _≤_}
 use native.Mathlib.Numerals.{add-one}
-use native.Mathlib.Nat.{not-suc-le-zero}
 use native.Mathlib.Omega.{arith}
 use borrow.Author.Tests.{le-leb, lt-leb}
 use lib.Dec.{T, eqb, leb, eqb→eq, eqb·suc-zero}
 use lib.ListN.{length, getD, drop, drop-of-length-le}
 use lib.Seq.{drop-cons}
-use Rattle.laws.specs.Basics.{both, either, between, every-below, basics}
+use Rattle.laws.specs.Basics.{both, either, between, every-below}
 use Rattle.laws.proofs.Below.{both-left, both-right, below}
 use Rattle.rules.specs.Utf8.{Range, _to_, within, follows, utf8-after, utf8, scalar-value}
 use Rattle.leaf_utf8.specs.Awaiting.{awaits, ranges, shown, rest-good}

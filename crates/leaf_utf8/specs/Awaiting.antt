@@ -3,7 +3,7 @@ use mathlib.Core.Bool.{Bool, false}
 use mathlib.Core.List.{List, [], _∷_}
 use mathlib.Core.Option.{Option, none, some}
 use Prim.Native.Nat.{ℕ, zero, suc}
-use Rattle.rules.specs.Utf8.{Range, _to_, utf8-after, utf8-rules}
+use Rattle.rules.specs.Utf8.{Range, _to_, utf8-after}
 use Rattle.leaf_utf8.specs.declared.Awaited.{Awaited}
 use Rattle.leaf_utf8.specs.declared.Next.{Next}
 use Rattle.leaf_utf8.specs.declared.Next.the-variants.{Bad, Good}

@@ -8,14 +8,14 @@ ghost use Rattle.leaf_utf8.specs.Awaiting.{ranges, shown, rest-good};
 
 // What must follow: `left` more bytes, the next of them from `low` to `high`, the others from 0x80 to 0xbf. With none
 // left a scalar value ends, and the next byte is a first byte.
-pub struct Awaited {
-    pub left: u8,
-    pub low: u8,
-    pub high: u8,
+struct Awaited {
+    left: u8,
+    low: u8,
+    high: u8,
 }
 
 // What a byte leads to.
-pub enum Next {
+enum Next {
     Bad,
     Good(Awaited),
 }

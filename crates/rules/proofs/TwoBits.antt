@@ -1,20 +1,21 @@
 -- The two-bit law, once for any of the four places, and what follows for a whole map: a slot's state is what was last
 -- stored there, and no other slot's changes. Document 01, "Slots and growth". Assumes nothing.
-use mathlib.Core.Path.{_≡_, refl, sym, _∙_, ap}
-use mathlib.Core.List.{List, [], _∷_}
+use mathlib.Core.Bool.{Bool, not}
+use mathlib.Core.Path.{_≡_, refl, ap, subst}
+use mathlib.Core.List.{List, [], _∷_, _++_}
 use Prim.Native.Nat.{ℕ, zero, suc, _+_, _-_, _*_, _/_, _%_, _^_, _<_, _≤_}
 use native.Mathlib.Omega.{arith}
 use native.Mathlib.Decide.{ℕ-discrete, decLt}
-use lib.Dec.{T, ltb, ltb→lt, lit<}
+use lib.Dec.{T, T-not, eqb, eqb-refl, ltb, ltb→lt, lit<}
 use lib.Bits.{bitAnd}
 use lib.Count.{ones}
 use native.Mathlib.Nat.{zero-div}
 use native.Mathlib.Numerals.{add-one}
-use lib.ListN.{length, getD, set, drop, length-set, drop-of-length-le, List·getD-eq-default}
-use lib.Seq.{drop-cons, getD-set-same, getD-set-other, set-out}
+use lib.ListN.{length, getD, drop, length-set, drop-of-length-le, List·getD-eq-default, List·getD-append}
+use lib.Seq.{drop-cons, getD-set-same, getD-set-other, set-out, set-append-left}
 use Rattle.laws.proofs.Below.{agree, both-left, both-right}
-use Rattle.laws.proofs.Sums.{sum-below, sum-below-front, sum-below-same, sum-set}
-use Rattle.laws.specs.Basics.{both, basics}
+use Rattle.laws.proofs.Sums.{sum-below, sum-below-front, sum-below-same, sum-below-ones, sum-set, length-by-count}
+use Rattle.laws.specs.Basics.{both, every, count, zeros, basics}
 use Rattle.rules.specs.Map.{state-in, with-state, state-of, set-state, low-bits, set-low-bits, map-rules}
 
 pub by-place : (P : ℕ → Type 0) → P 0 → P 1 → P 2 → P 3 → (p : ℕ) → p < 4 → P p
@@ -146,9 +147,18 @@ module _ (m : List ℕ) (s v : ℕ) (small : v < 4) where
 -- ---- the low bits of the map
 
 -- the byte at i, and those after it
-pub low-bits-on : (m : List ℕ) (i : ℕ) → i < length m → set-low-bits (drop i m) ≡ low-bits (getD m i 0) + set-low-bits (drop (i + 1) m)
+low-bits-on : (m : List ℕ) (i : ℕ) → i < length m → set-low-bits (drop i m) ≡ low-bits (getD m i 0) + set-low-bits (drop (i + 1) m)
 unfolding set-low-bits basics
 low-bits-on m i h = rw (add-one, drop-cons m i 0)
+
+-- a byte counted
+pub record Counted (m : List ℕ) (i r : ℕ) : Type 0 where
+  pub at-most : r ≤ 4
+  pub left : set-low-bits (drop i m) ≡ r + set-low-bits (drop (i + 1) m)
+
+pub count-byte : (m : List ℕ) (i r : ℕ) → i < length m → r ≡ low-bits (getD m i 0) → Counted m i r
+count-byte m i r h e =
+    record { at-most = omega (arith, low-bits-small (getD m i 0)); left = omega (arith, low-bits-on m i h) }
 
 pub low-bits-done : (m : List ℕ) (i : ℕ) → length m ≤ i → set-low-bits (drop i m) ≡ 0
 unfolding set-low-bits basics
@@ -165,25 +175,43 @@ low-bits-in : (b : ℕ) → low-bits b ≡ low-in b 0 + low-in b 1 + low-in b 2 
 unfolding map-rules low-in
 low-bits-in b = rw (one-place (b / 1), one-place (b / 4), one-place (b / 16), one-place (b / 64)) (omega arith)
 
+-- of two bytes
+record Total (b c : ℕ) : Type 0 where
+  before : low-bits b ≡ low-in b 0 + low-in b 1 + low-in b 2 + low-in b 3
+  after : low-bits c ≡ low-in c 0 + low-in c 1 + low-in c 2 + low-in c 3
+
 -- the low bits after a slot's state changed
 module _ (b s : ℕ) (small : s < 4) where
   low-same : (p : ℕ) → p < 4 → low-in (with-state b p s) p ≡ s % 2
   unfolding low-in
   low-same p h = ap (λ (x : ℕ). x % 2) (stored b s small p h)
 
-  low-other : (p q : ℕ) → T (both (ltb p 4) (ltb q 4)) → (q ≡ p → ⊥) → low-in (with-state b p s) q ≡ low-in b q
-  unfolding low-in
-  low-other p q t d =
+  -- of two places that are not the same
+  two : ℕ → ℕ → Bool
+  two p q = both (both (ltb p 4) (ltb q 4)) (not (eqb q p))
+
+  low-other : (p q : ℕ) → T (two p q) → low-in (with-state b p s) q ≡ low-in b q
+  unfolding low-in two
+  low-other p q t =
+      let l = both-left (both (ltb p 4) (ltb q 4)) (not (eqb q p)) t in
+      let d = both-right (both (ltb p 4) (ltb q 4)) (not (eqb q p)) t in
       ap (λ (x : ℕ). x % 2)
-      (others-kept b s small p q (ltb→lt p 4 (both-left (ltb p 4) (ltb q 4) t)) (ltb→lt q 4 (both-right (ltb p 4) (ltb q 4) t)) d)
+      (others-kept b s small p q
+      (ltb→lt p 4 (both-left (ltb p 4) (ltb q 4) l))
+      (ltb→lt q 4 (both-right (ltb p 4) (ltb q 4) l))
+      (λ e. T-not (eqb q p) d (subst (λ (x : ℕ). T (eqb q x)) e (eqb-refl q))))
+
+  total : (p : ℕ) → Total b (with-state b p s)
+  total p = record { before = low-bits-in b; after = low-bits-in (with-state b p s) }
 
   low-bits-change : (p : ℕ) → p < 4 → low-bits (with-state b p s) + low-in b p ≡ low-bits b + s % 2
+  unfolding two
   low-bits-change =
       by-place (λ p. low-bits (with-state b p s) + low-in b p ≡ low-bits b + s % 2)
-      (omega (arith, low-bits-in b, low-bits-in (with-state b 0 s), low-same 0 (lit< tt), low-other 0 1 tt (λ e. omega arith), low-other 0 2 tt (λ e. omega arith), low-other 0 3 tt (λ e. omega arith)))
-      (omega (arith, low-bits-in b, low-bits-in (with-state b 1 s), low-same 1 (lit< tt), low-other 1 0 tt (λ e. omega arith), low-other 1 2 tt (λ e. omega arith), low-other 1 3 tt (λ e. omega arith)))
-      (omega (arith, low-bits-in b, low-bits-in (with-state b 2 s), low-same 2 (lit< tt), low-other 2 0 tt (λ e. omega arith), low-other 2 1 tt (λ e. omega arith), low-other 2 3 tt (λ e. omega arith)))
-      (omega (arith, low-bits-in b, low-bits-in (with-state b 3 s), low-same 3 (lit< tt), low-other 3 0 tt (λ e. omega arith), low-other 3 1 tt (λ e. omega arith), low-other 3 2 tt (λ e. omega arith)))
+      (omega (arith, total 0, low-same 0 (lit< tt), low-other 0 1 tt, low-other 0 2 tt, low-other 0 3 tt))
+      (omega (arith, total 1, low-same 1 (lit< tt), low-other 1 0 tt, low-other 1 2 tt, low-other 1 3 tt))
+      (omega (arith, total 2, low-same 2 (lit< tt), low-other 2 0 tt, low-other 2 1 tt, low-other 2 3 tt))
+      (omega (arith, total 3, low-same 3 (lit< tt), low-other 3 0 tt, low-other 3 1 tt, low-other 3 2 tt))
 
 pub set-low-bits-change : (m : List ℕ) (s v : ℕ) → s / 4 < length m → v < 4
     → set-low-bits (set-state m s v) + state-of m s % 2 ≡ set-low-bits m + v % 2
@@ -230,3 +258,42 @@ pub by-slots : (m : List ℕ) → set-low-bits m ≡ sum-below (4 * length m) (l
 unfolding map-rules basics sum-below
 by-slots [] = refl
 by-slots (b ∷ m) = more b m (by-slots m)
+
+-- "The used count is capacity less the free list; it is also counted from the map's set low bits, and the two are
+-- equal": where each slot stands once in the list, or has its low bit set
+pub free-and-used : (m free : List ℕ) → T (every (λ s. ltb s (4 * length m)) free)
+    → ((s : ℕ) → s < 4 * length m → count s free + low-bit m s ≡ 1)
+    → length free + set-low-bits m ≡ 4 * length m
+free-and-used m free t h =
+    let n = 4 * length m in
+    omega (arith, by-slots m, length-by-count n free t, sum-below-ones n (λ s. count s free) (low-bit m) h)
+
+-- ---- more bytes behind the map, which are zero: spare room, or a heap that grew
+
+-- no low bit more than slots
+pub set-low-bits-most : (m : List ℕ) → set-low-bits m ≤ 4 * length m
+unfolding set-low-bits basics
+set-low-bits-most [] = omega arith
+set-low-bits-most (b ∷ m) = omega (arith, low-bits-small b, set-low-bits-most m)
+
+zero-behind : (m : List ℕ) (n k : ℕ) → getD (m ++ zeros n) k 0 ≡ getD m k 0
+unfolding basics
+zero-behind [] zero k = refl
+zero-behind [] (suc n) zero = refl
+zero-behind [] (suc n) (suc k) = zero-behind [] n k
+zero-behind (b ∷ m) n zero = refl
+zero-behind (b ∷ m) n (suc k) = zero-behind m n k
+
+pub state-behind : (m : List ℕ) (n s : ℕ) → state-of (m ++ zeros n) s ≡ state-of m s
+unfolding state-of
+state-behind m n s = ap (λ (b : ℕ). state-in b (s % 4)) (zero-behind m n (s / 4))
+
+pub set-state-behind : (m z : List ℕ) (s v : ℕ) → s / 4 < length m → set-state (m ++ z) s v ≡ set-state m s v ++ z
+unfolding set-state
+set-state-behind m z s v h = rw (List·getD-append m z 0 (s / 4) h, set-append-left m z (s / 4) (with-state (getD m (s / 4) 0) (s % 4) v) h)
+
+pub set-low-bits-behind : (m : List ℕ) (n : ℕ) → set-low-bits (m ++ zeros n) ≡ set-low-bits m
+unfolding map-rules basics
+set-low-bits-behind [] zero = refl
+set-low-bits-behind [] (suc n) = omega (arith, set-low-bits-behind [] n)
+set-low-bits-behind (b ∷ m) n = omega (arith, set-low-bits-behind m n)

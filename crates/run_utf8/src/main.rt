@@ -1,7 +1,6 @@
 // Runs the UTF-8 check on stored cases. A case is a line of bytes in hex, or `u` and a code point in four such bytes, highest
 // first. The answer is a line: 1 where the bytes are UTF-8, or the code point a scalar value, and else 0. What the cases
 // are, and their answers, is made by tools/leaf_cases.py.
-ghost use mathlib.Core.Path.{_≡_};
 ghost use Prim.Native.Nat.{_+_, _*_, _<_, _≤_};
 ghost use lib.ListN.{length};
 

@@ -1,7 +1,6 @@
 -- `leaf_map::used`: what is counted and what is left to count make the whole. Assumes nothing.
-use lib.ListN.{getD}
 use native.Mathlib.Omega.{arith}
-use Rattle.rules.proofs.TwoBits.{low-bits-small, low-bits-on, low-bits-done}
+use Rattle.rules.proofs.TwoBits.{Counted, count-byte, low-bits-done}
 use mathlib.Core.Path.{_≡_}
 use Rattle.rules.specs.Map.{set-low-bits}
 use lib.ListN.{length, drop}
@@ -25,8 +24,15 @@ shared-slice-read-low-bits c = search needs
 low-bits-requires : tie.Need-low-bits-requires Inv-loop μ-loop
 low-bits-requires c κs = search needs
 
+-- a byte was counted: at most four, and so many are left fewer
+counted : (c : tie.After-low-bits Inv-loop μ-loop) → Counted (c .before .before .before .before .before .args .map .now) (c .before .before .before .loop .i) (c .low-bits .result)
+counted c =
+    let l = c .before .before .before in
+    count-byte (l .before .before .args .map .now) (l .loop .i) (c .low-bits .result) (c .before .before .loop-test .taken)
+    (c .low-bits .ensures)
+
 add-n : tie.Need-add-n Inv-loop μ-loop
-add-n c = omega (arith, low-bits-small (getD (c .before .before .before .before .before .args .map .now) (c .before .before .before .loop .i) 0), c .low-bits .ensures)
+add-n c = omega (arith, counted c)
 
 add-i : tie.Need-add-i Inv-loop μ-loop
 add-i c = search needs
@@ -35,7 +41,7 @@ loop-less : tie.Need-loop-less Inv-loop μ-loop
 loop-less c = search needs
 
 loop-again : tie.Need-loop-again Inv-loop μ-loop
-loop-again c = (search needs, omega (arith, low-bits-small (getD (c .before .before .before .before .before .args .map .now) (c .before .before .before .loop .i) 0), c .low-bits .ensures), omega (arith, low-bits-on (c .before .before .before .before .before .args .map .now) (c .before .before .before .loop .i) (c .before .before .loop-test .taken), c .low-bits .ensures))
+loop-again c = (search needs, omega (arith, counted c), omega (arith, counted c))
 
 returns : tie.Need-returns Inv-loop μ-loop
 returns c = omega (arith, low-bits-done (c .before .before .before .args .map .now) (c .before .loop .i) (c .loop-test .left))

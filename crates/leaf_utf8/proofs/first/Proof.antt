@@ -1,14 +1,22 @@
 -- `leaf_utf8::first`: each case is a row, and what is in no row is bad. Assumes nothing.
-use Rattle.laws.specs.Basics.{basics}
-use mathlib.Core.Option.{none, some}
-use Rattle.rules.specs.Utf8.{_to_}
+use mathlib.Core.List.{List}
+use mathlib.Core.Option.{Option, none, some}
+use mathlib.Core.Path.{_≡_, ap, _∙_}
+use Prim.Native.Nat.{ℕ, _≤_}
 use native.Mathlib.Omega.{arith}
-use mathlib.Core.Path.{ap, _∙_}
+use borrow.Author.Needs.{needs}
+use lib.Dec.{T}
+use Rattle.laws.specs.Basics.{every-below, basics}
+use Rattle.rules.specs.Utf8.{Range, _to_, follows}
 use Rattle.leaf_utf8.specs.Awaiting.{awaits, shown}
 use Rattle.leaf_utf8.proofs.Rows.{row-test, row}
-use borrow.Author.Needs.{needs}
 use Rattle.leaf_utf8.proofs.first.Statement.{statement}
 use Rattle.leaf_utf8.proofs.first.Tie as tie
+
+-- the byte is in this row
+here : (c : tie.Start) (lo hi : ℕ) (o : Option (List Range)) → T (every-below 256 (row-test lo hi o)) → lo ≤ c .args .byte
+    → c .args .byte ≤ hi → o ≡ follows (c .args .byte)
+here c lo hi o t = row lo hi o t (c .args .byte) (c .fits .byte .fits)
 
 awaiting-requires : tie.Need-awaiting-requires
 awaiting-requires c κs = search needs
@@ -39,47 +47,65 @@ awaiting-requires-9 c κs = search needs
 
 returns : tie.Need-returns
 unfolding row-test awaits basics
-returns c = ap shown (c .awaiting .ensures) ∙ row 0xe0 0xe0 (some (awaits 2 (0xa0 to 0xbf))) tt (c .before .before .args .byte) (c .before .before .fits .byte .fits) (omega arith) (omega arith)
+returns c =
+    ap shown (c .awaiting .ensures) ∙
+    here (c .before .before) 0xe0 0xe0 (some (awaits 2 (0xa0 to 0xbf))) tt (omega arith) (omega arith)
 
 returns-2 : tie.Need-returns-2
 unfolding row-test awaits basics
-returns-2 c = ap shown (c .awaiting2 .ensures) ∙ row 0xed 0xed (some (awaits 2 (0x80 to 0x9f))) tt (c .before .before .args .byte) (c .before .before .fits .byte .fits) (omega arith) (omega arith)
+returns-2 c =
+    ap shown (c .awaiting2 .ensures) ∙
+    here (c .before .before) 0xed 0xed (some (awaits 2 (0x80 to 0x9f))) tt (omega arith) (omega arith)
 
 returns-3 : tie.Need-returns-3
 unfolding row-test awaits basics
-returns-3 c = ap shown (c .awaiting3 .ensures) ∙ row 0xf0 0xf0 (some (awaits 3 (0x90 to 0xbf))) tt (c .before .before .args .byte) (c .before .before .fits .byte .fits) (omega arith) (omega arith)
+returns-3 c =
+    ap shown (c .awaiting3 .ensures) ∙
+    here (c .before .before) 0xf0 0xf0 (some (awaits 3 (0x90 to 0xbf))) tt (omega arith) (omega arith)
 
 returns-4 : tie.Need-returns-4
 unfolding row-test awaits basics
-returns-4 c = ap shown (c .awaiting4 .ensures) ∙ row 0xf4 0xf4 (some (awaits 3 (0x80 to 0x8f))) tt (c .before .before .args .byte) (c .before .before .fits .byte .fits) (omega arith) (omega arith)
+returns-4 c =
+    ap shown (c .awaiting4 .ensures) ∙
+    here (c .before .before) 0xf4 0xf4 (some (awaits 3 (0x80 to 0x8f))) tt (omega arith) (omega arith)
 
 returns-5 : tie.Need-returns-5
 unfolding row-test awaits basics
-returns-5 c = ap shown (c .awaiting5 .ensures) ∙ row 0 0x7f (some (awaits 0 (0x80 to 0xbf))) tt (c .before .before .before .args .byte) (c .before .before .before .fits .byte .fits) (omega arith) (omega arith)
+returns-5 c =
+    ap shown (c .awaiting5 .ensures) ∙
+    here (c .before .before .before) 0x00 0x7f (some (awaits 0 (0x80 to 0xbf))) tt (omega arith) (omega arith)
 
 returns-6 : tie.Need-returns-6
 unfolding row-test awaits basics
-returns-6 c = ap shown (c .awaiting6 .ensures) ∙ row 0xc2 0xdf (some (awaits 1 (0x80 to 0xbf))) tt (c .before .before .before .before .before .args .byte) (c .before .before .before .before .before .fits .byte .fits) (omega arith) (omega arith)
+returns-6 c =
+    ap shown (c .awaiting6 .ensures) ∙
+    here (c .before .before .before .before .before) 0xc2 0xdf (some (awaits 1 (0x80 to 0xbf))) tt (omega arith) (omega arith)
 
 returns-7 : tie.Need-returns-7
 unfolding row-test awaits basics
-returns-7 c = ap shown (c .awaiting7 .ensures) ∙ row 0xe1 0xec (some (awaits 2 (0x80 to 0xbf))) tt (c .before .before .before .before .before .before .args .byte) (c .before .before .before .before .before .before .fits .byte .fits) (omega arith) (omega arith)
+returns-7 c =
+    ap shown (c .awaiting7 .ensures) ∙
+    here (c .before .before .before .before .before .before) 0xe1 0xec (some (awaits 2 (0x80 to 0xbf))) tt (omega arith) (omega arith)
 
 returns-8 : tie.Need-returns-8
 unfolding row-test awaits basics
-returns-8 c = ap shown (c .awaiting8 .ensures) ∙ row 0xee 0xef (some (awaits 2 (0x80 to 0xbf))) tt (c .before .before .before .before .before .before .before .args .byte) (c .before .before .before .before .before .before .before .fits .byte .fits) (omega arith) (omega arith)
+returns-8 c =
+    ap shown (c .awaiting8 .ensures) ∙
+    here (c .before .before .before .before .before .before .before) 0xee 0xef (some (awaits 2 (0x80 to 0xbf))) tt (omega arith) (omega arith)
 
 returns-9 : tie.Need-returns-9
 unfolding row-test awaits basics
-returns-9 c = ap shown (c .awaiting9 .ensures) ∙ row 0xf1 0xf3 (some (awaits 3 (0x80 to 0xbf))) tt (c .before .before .before .before .before .before .before .before .args .byte) (c .before .before .before .before .before .before .before .before .fits .byte .fits) (omega arith) (omega arith)
+returns-9 c =
+    ap shown (c .awaiting9 .ensures) ∙
+    here (c .before .before .before .before .before .before .before .before) 0xf1 0xf3 (some (awaits 3 (0x80 to 0xbf))) tt (omega arith) (omega arith)
 
 returns-10 : tie.Need-returns-10
 unfolding row-test awaits basics
-returns-10 c = row 0x80 0xc1 none tt (c .before .before .before .args .byte) (c .before .before .before .fits .byte .fits) (omega arith) (omega arith)
+returns-10 c = here (c .before .before .before) 0x80 0xc1 none tt (omega arith) (omega arith)
 
 returns-11 : tie.Need-returns-11
 unfolding row-test awaits basics
-returns-11 c = row 0xf5 0xff none tt (c .before .before .before .before .before .before .before .args .byte) (c .before .before .before .before .before .before .before .fits .byte .fits) (omega arith) (omega arith)
+returns-11 c = here (c .before .before .before .before .before .before .before) 0xf5 0xff none tt (omega arith) (omega arith)
 
 pub first-spec : {M : Type 1} → statement M
 first-spec =

@@ -1,9 +1,9 @@
 -- `leaf_utf8::is_utf8`: what was to do is what is left to do. Assumes nothing.
 use Rattle.leaf_utf8.proofs.Rows.{begins, stops, goes-on, ends}
-use Rattle.leaf_utf8.specs.Awaiting.{ranges, rest-good}
+use Rattle.leaf_utf8.specs.Awaiting.{ranges}
 use mathlib.Core.Path.{_≡_, sym, _∙_}
 use Rattle.rules.specs.Utf8.{utf8, utf8-after, _to_}
-use lib.ListN.{length, drop, getD}
+use lib.ListN.{length, drop}
 use Prim.Native.Nat.{_≤_, _-_}
 use borrow.Author.Needs.{needs}
 use Rattle.leaf_utf8.proofs.is_utf8.Statement.{statement}
@@ -28,7 +28,11 @@ enum-told : tie.Need-enum-told Inv-loop μ-loop
 enum-told c = search needs
 
 returns : tie.Need-returns Inv-loop μ-loop
-returns c = stops (c .before .before .before .before .before .before .before .args .s .now) (c .before .before .before .before .before .loop .a) (c .before .before .before .before .before .loop .i) (c .before .before .step .result) (c .before .before .before .before .before .loop .inv .1) (c .before .before .before .before .loop-test .taken) (c .before .before .step .ensures) (c .enum-told .given .1)
+returns c =
+    let l = c .before .before .before .before .before in
+    let r = c .before .before .step in
+    stops (l .before .before .args .s .now) (l .loop .a) (l .loop .i) (r .result) (l .loop .inv .1)
+    (c .before .before .before .before .loop-test .taken) (r .ensures) (c .enum-told .given .1)
 
 enum-known-next : tie.Need-enum-known-next Inv-loop μ-loop
 enum-known-next c = search needs
@@ -40,10 +44,20 @@ loop-less : tie.Need-loop-less Inv-loop μ-loop
 loop-less c = search needs
 
 loop-again : tie.Need-loop-again Inv-loop μ-loop
-loop-again c = (search needs, goes-on (c .before .before .before .before .before .before .before .before .args .s .now) (c .before .before .before .before .before .before .loop .a) (c .before .before .before .before .before .before .loop .i) (c .before .before .before .step .result) (c .before .before .before .before .before .before .loop .inv .1) (c .before .before .before .before .before .loop-test .taken) (c .before .before .before .step .ensures) (c .before .next .given .0 .0) (c .before .next .given .1))
+loop-again c =
+    let l = c .before .before .before .before .before .before in
+    let r = c .before .before .before .step in
+    let n = c .before .next .given in (
+      search needs,
+      goes-on (l .before .before .args .s .now) (l .loop .a) (l .loop .i) (r .result) (l .loop .inv .1)
+          (c .before .before .before .before .before .loop-test .taken) (r .ensures) (n .0 .0) (n .1),
+    )
 
 returns-2 : tie.Need-returns-2 Inv-loop μ-loop
-returns-2 c = ends (c .before .before .before .before .args .s .now) (c .before .before .loop .a .left) (c .before .before .loop .i) (c .before .before .loop .a .low to c .before .before .loop .a .high) (c .before .loop-test .left) ∙ sym (c .before .before .loop .inv .1)
+returns-2 c =
+    let l = c .before .before in
+    ends (l .before .before .args .s .now) (l .loop .a .left) (l .loop .i) (l .loop .a .low to l .loop .a .high) (c .before .loop-test .left) ∙
+    sym (l .loop .inv .1)
 
 pub is-utf8-spec : {M : Type 1} → statement M
 is-utf8-spec =

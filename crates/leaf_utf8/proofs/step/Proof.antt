@@ -17,19 +17,31 @@ awaiting-requires : tie.Need-awaiting-requires
 awaiting-requires c κs = search needs
 
 returns : tie.Need-returns
-returns c = λ bs. first-byte (c .before .before .before .args .a) (c .before .before .before .args .byte) bs (c .first .result) (c .before .if1 .taken) (c .first .ensures)
+returns c =
+    let a = c .before .before .before .args in
+    λ bs. first-byte (a .a) (a .byte) bs (c .first .result) (c .before .if1 .taken) (c .first .ensures)
 
 returns-2 : tie.Need-returns-2
 unfolding rest-good
-returns-2 c = λ bs. too-low (c .before .before .before .before .args .a) (c .before .before .before .before .args .byte) bs (c .before .before .if1 .left) (c .if2 .taken)
+returns-2 c =
+    let a = c .before .before .before .before .args in
+    λ bs. too-low (a .a) (a .byte) bs (c .before .before .if1 .left) (c .if2 .taken)
 
 returns-3 : tie.Need-returns-3
 unfolding rest-good
-returns-3 c = λ bs. in-range (c .before .before .before .before .before .before .before .before .args .a) (c .before .before .before .before .before .before .before .before .args .byte) bs (c .before .before .before .before .before .before .if1 .left) (c .before .before .before .before .if2 .left) (c .before .before .if3 .taken) ∙ sym (ap (λ (n : Next). rest-good n bs) (c .awaiting .ensures))
+returns-3 c =
+    let l = c .before .before .before .before in
+    let a = l .before .before .before .before .args in
+    λ bs.
+    in-range (a .a) (a .byte) bs (l .before .before .if1 .left) (l .if2 .left) (c .before .before .if3 .taken) ∙
+    sym (ap (λ (n : Next). rest-good n bs) (c .awaiting .ensures))
 
 returns-4 : tie.Need-returns-4
 unfolding rest-good
-returns-4 c = λ bs. too-high (c .before .before .before .before .before .before .args .a) (c .before .before .before .before .before .before .args .byte) bs (c .before .before .before .before .if1 .left) (c .before .before .if2 .left) (c .if3 .left)
+returns-4 c =
+    let l = c .before .before in
+    let a = l .before .before .before .before .args in
+    λ bs. too-high (a .a) (a .byte) bs (l .before .before .if1 .left) (l .if2 .left) (c .if3 .left)
 
 pub step-spec : {M : Type 1} → statement M
 step-spec =

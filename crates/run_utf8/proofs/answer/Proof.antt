@@ -42,7 +42,9 @@ slice-reshare-prefix-is-utf8 : tie.Need-slice-reshare-prefix-is-utf8
 slice-reshare-prefix-is-utf8 c = search needs
 
 slice-aggregate-is-utf8 : tie.Need-slice-aggregate-is-utf8
-slice-aggregate-is-utf8 c = sym (length-take-le (c .before .before .before .unhex2 .result) (c .before .before .before .unhex2 .last .1 .0) (c .before .before .before .unhex2 .ensures .0))
+slice-aggregate-is-utf8 c =
+    let u = c .before .before .before .unhex2 in
+    sym (length-take-le (u .result) (u .last .1 .0) (u .ensures .0))
 
 is-utf8-requires : tie.Need-is-utf8-requires
 is-utf8-requires c κs = search needs

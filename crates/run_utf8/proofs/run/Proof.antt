@@ -1,7 +1,7 @@
 -- `run_utf8::run` is safe and ends: each case takes at least its line's end. Assumes nothing.
 use mathlib.Core.Path.{_≡_}
 use lib.ListN.{length}
-use Prim.Native.Nat.{_≤_, _-_, _*_}
+use Prim.Native.Nat.{_≤_, _-_}
 use borrow.Author.Needs.{needs}
 use Rattle.run_utf8.proofs.run.Statement.{statement}
 use Rattle.run_utf8.proofs.run.Tie as tie
