@@ -4,3 +4,4 @@ pub mod Datum
 pub mod LentLaws
 pub mod TwoBits
 pub mod SoundLaws
+pub mod EqualLaws

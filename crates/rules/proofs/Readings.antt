@@ -6,10 +6,12 @@ use mathlib.Core.List.{List, [], _∷_, _++_}
 use mathlib.Core.Option.{some}
 use Rattle.laws.specs.Basics.{ascii, basics}
 use Rattle.rules.specs.Refusals.{accepted, refused, no-slots}
-use Rattle.rules.specs.Cells.{undefined, number, Cell, plain, pair, vector, block}
+use Rattle.rules.specs.Cells.{undefined, number, slot, Cell, plain, pair, vector, block}
 use Rattle.rules.specs.Nodes.{Atom}
 use Rattle.rules.specs.Datum.{Datum}
-use Rattle.rules.specs.Readings.{Result, answers, sizes, taken, free-list, text, read-back, byte, equals, same-object, readings, readings-rules, num, ring}
+use Rattle.rules.specs.Readings.{Result, answers, sizes, taken, free-list, text, read-back, byte, equals, same-object, readings, readings-rules, num, foo, empty, after-both, root, second-root}
+use Rattle.rules.specs.Equal.{Equal}
+use Rattle.rules.proofs.EqualLaws.{equal-yes, equal-no}
 
 -- 1 chunk 4, lent 8: slots 0,1,2,3,7. 2 lent 7: the fifth is 16. 3 lent 24: sizes 4, 8, 12, 20, then 16. 4 (1 . 2) fresh:
 -- pair at 2 of (0,1). 5 #(1 2): slot 0 only. 6 #0=#0#: slot 0, Undefined. 7 the listing. 8 then collecting root 0: list
@@ -38,3 +40,18 @@ paper =
 pub fourteen : readings ≡ paper
 unfolding readings-rules basics
 fourteen = refl
+
+-- 11 and 12 as facts about `equal`: what was computed is its answer
+abbrev dotted : Datum
+dotted = Datum.pair (num 1) foo
+
+abbrev listed : Datum
+listed = Datum.pair (num 1) (Datum.pair (num 2) empty)
+
+pub eleven : Equal (after-both dotted) (slot (root dotted)) (slot (second-root dotted)) false
+unfolding readings-rules
+eleven = equal-no (after-both dotted) 100 (slot (root dotted)) (slot (second-root dotted)) refl
+
+pub twelve : Equal (after-both listed) (slot (root listed)) (slot (second-root listed)) true
+unfolding readings-rules
+twelve = equal-yes (after-both listed) 100 (slot (root listed)) (slot (second-root listed)) refl
