@@ -6,7 +6,7 @@ use mathlib.Core.Option.{Option, none, some}
 use Prim.Native.Nat.{ℕ, zero, suc, _+_, _-_}
 use lib.Dec.{eqb, ltb}
 use lib.ListN.{length, replicate}
-use Rattle.laws.specs.Basics.{find, basics}
+use Rattle.laws.specs.Basics.{choose, find, basics}
 use Rattle.rules.specs.Cells.{Scalar, undefined, Value, scalar, Block, Cell, plain, pair, symbol, string, vector}
 use Rattle.rules.specs.Nodes.{Atom}
 use Rattle.rules.specs.Datum.{Datum, Data, end, more, how-many}
@@ -17,7 +17,7 @@ pub record Label : Type 0 where
   pub label : ℕ
   pub slot : ℕ
 
--- the heap in the middle of a put, with the labels begun so far, the latest first
+-- the heap in the middle of a put, with the labels begun so far, each once
 pub record Making : Type 0 where
   pub heap : Heap
   pub labels : List Label
@@ -71,6 +71,12 @@ put-symbol name scope m =
 
 -- ---- labels
 
+-- a definition of a label: from here on it counts, in place of an earlier one
+unfoldable pub with-label : ℕ → ℕ → List Label → List Label
+with-label l s [] = record { label = l; slot = s } ∷ []
+with-label l s (x ∷ xs) =
+    let r = x ∷ with-label l s xs in choose (eqb (x .label) l) (record { label = l; slot = s } ∷ xs) r
+
 -- "the latest definition of a label counts"; 13 sees to it that there is one
 unfoldable pub slot-of : ℕ → List Label → ℕ
 unfolding basics
@@ -81,8 +87,9 @@ unfoldable pub begin-label : ℕ → Making → Given
 unfolding heap-rules
 begin-label l m = alloc (m .heap)
 
-abbrev pub labelled : ℕ → Given → Making → Making
-labelled l g m = making (g .heap) (record { label = l; slot = g .slot } ∷ m .labels)
+unfoldable pub labelled : ℕ → Given → Making → Making
+unfolding with-label
+labelled l g m = making (g .heap) (with-label l (g .slot) (m .labels))
 
 -- "and copies the resulting cell into that slot"
 unfoldable pub end-label : ℕ → Put → Put
@@ -147,6 +154,6 @@ unfoldable pub room-short : {A : Type 0} → ℕ → List A → Bool
 room-short lent room = ltb lent (length room)
 
 unfoldable pub put-rules : Unit {0}
-unfolding new-cell in-slot slot-in put-string make-symbol put-symbol slot-of begin-label end-label put-atom put put-all put-datum
+unfolding new-cell in-slot slot-in put-string make-symbol put-symbol with-label slot-of begin-label labelled end-label put-atom put put-all put-datum
     slots-short room-short
 put-rules = tt
