@@ -254,6 +254,23 @@ mutual
       more-inv f (λ bs k d rest j h e. datum-inv f bs k d rest j h e) (λ n bs k ds rest j h e. data-inv f n bs k ds rest j h e)
       n bs k ds rest j h e
 
+-- what is left after a datum: fewer bytes
+pub record Rest (bs rest : List ℕ) : Type 0 where
+  pub short : length rest < length bs
+  pub bytes : all-bytes rest ≡ true
+
+pub datum-rest : (f : ℕ) (bs : List ℕ) (k : ℕ) (d : Datum) (rest : List ℕ) (j : ℕ) → all-bytes bs ≡ true → datum-at f bs k ≡ parsed d rest j → Rest bs rest
+datum-rest f bs k d rest j h e =
+    let w = datum-inv f bs k d rest j h e in
+    record {
+      short = omega (arith, nodes-positive d, ap length (w .bytes) ∙ length-append (written (nodes d)) rest);
+      bytes = w .left;
+    }
+
+-- as many data were read as were wanted
+pub data-count : (f n : ℕ) (bs : List ℕ) (k : ℕ) (ds : Data) (rest : List ℕ) (j : ℕ) → all-bytes bs ≡ true → data-at f n bs k ≡ parsed ds rest j → n ≡ how-many ds
+data-count f n bs k ds rest j h e = data-inv f n bs k ds rest j h e .0
+
 -- what was parsed from the whole list
 record Parsed-good (bs : List ℕ) (d : Datum) : Type 0 where
   bytes : bs ≡ encode d

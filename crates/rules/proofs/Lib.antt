@@ -5,3 +5,4 @@ pub mod LentLaws
 pub mod TwoBits
 pub mod SoundLaws
 pub mod EqualLaws
+pub mod Flat
