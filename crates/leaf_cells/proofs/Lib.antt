@@ -1,0 +1,3 @@
+pub mod KindLaws
+pub mod RoomLaws
+pub mod HeapLaws

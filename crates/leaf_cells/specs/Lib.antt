@@ -1,0 +1,4 @@
+pub mod Words
+pub mod Cells
+pub mod Elements
+pub mod Rooms
