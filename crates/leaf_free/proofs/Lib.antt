@@ -1,2 +1,4 @@
 pub mod Growth
 pub mod Steps
+pub mod Written
+pub mod FreeWords
