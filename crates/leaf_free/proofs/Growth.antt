@@ -3,7 +3,7 @@
 use mathlib.Core.Path.{_≡_, refl, sym, ap, _∙_, subst}
 use mathlib.Core.Bool.{Bool, true, false}
 use Prim.Native.Nat.{ℕ, zero, suc, _+_, _-_, _*_, _/_, _%_, _≤_, _<_}
-use native.Mathlib.Nat.{le-trans, mul-div-cancel, mul-le-mul, mul-le-mul-right, div-le-self, mul-assoc, mul-left-comm}
+use native.Mathlib.Nat.{le-trans, mul-lt-mul-of-pos-right, mul-div-cancel, mul-le-mul, mul-le-mul-right, div-le-self, mul-assoc, mul-left-comm}
 use native.Mathlib.Omega.{arith}
 use native.Mathlib.Decide.{decLe, decLt}
 use borrow.Author.Tests.{le-leb, lt-leb, eq-eqb, ne-eqb}
@@ -148,7 +148,7 @@ unfolding steps
 most-pass = omega arith
 
 -- a positive size is one chunk at least
-positive-chunks : (chunk size : ℕ) → 0 < size → Whole chunk size → 0 < chunk → 1 ≤ size / chunk
+pub positive-chunks : (chunk size : ℕ) → 0 < size → Whole chunk size → 0 < chunk → 1 ≤ size / chunk
 positive-chunks chunk size p w c =
     let e : size / chunk ≡ w .chunks = ap (λ (n : ℕ). n / chunk) (w .is) ∙ mul-div-cancel (w .chunks) c in
     elim (decLe 1 (w .chunks)) [
@@ -169,3 +169,31 @@ fitting-grown chunk lent size c l p w h =
     let long : 1025 * 4 ≤ steps 31 (more (size / chunk)) * chunk = mul-le-mul (le-trans most-pass (steps-more 31 1 (more (size / chunk)) many)) c in
     sym (fitting-more chunk lent (grown chunk size) (more (size / chunk)) q refl (omega arith))
     ∙ sym (fitting-on chunk lent size 31 h)
+
+-- a positive size grows
+pub rises : (chunk size : ℕ) → 0 < chunk → 0 < size → Whole chunk size → size < grown chunk size
+rises chunk size c p w =
+    let k = w .chunks in
+    let e : size / chunk ≡ k = ap (λ (n : ℕ). n / chunk) (w .is) ∙ mul-div-cancel k c in
+    let many : 1 ≤ k = omega (arith, positive-chunks chunk size p w c) in
+    let up : k < more k = omega arith in
+    subst (λ (n : ℕ). n < grown chunk n) (sym (w .is))
+    (subst (λ (n : ℕ). k * chunk < n) (sym (grown-chunks chunk k c)) (mul-lt-mul-of-pos-right up c))
+
+-- growth ends at this size or above it, and within the lent slots
+pub fitting-least : (n chunk lent size : ℕ) → 0 < chunk → Whole chunk size → size ≤ fitting n chunk lent size
+fitting-least zero chunk lent size c w = omega (arith, fitting-none chunk lent size 0 refl)
+fitting-least (suc n) chunk lent size c w =
+    elim (decLe (grown chunk size) lent) [
+      | yes l ↦
+          omega (arith, fitting-on chunk lent size n l, no-less chunk size c w, fitting-least n chunk lent (grown chunk size) c (grown-whole chunk size))
+      | no l ↦ omega (arith, fitting-end chunk lent size (suc n) (omega arith))
+    ]
+
+pub fitting-most : (n chunk lent size : ℕ) → size ≤ lent → fitting n chunk lent size ≤ lent
+fitting-most zero chunk lent size h = omega (arith, fitting-none chunk lent size 0 refl)
+fitting-most (suc n) chunk lent size h =
+    elim (decLe (grown chunk size) lent) [
+      | yes l ↦ omega (arith, fitting-on chunk lent size n l, fitting-most n chunk lent (grown chunk size) l)
+      | no l ↦ omega (arith, fitting-end chunk lent size (suc n) (omega arith))
+    ]
