@@ -4,3 +4,4 @@ pub mod Lists
 pub mod Below
 pub mod Sums
 pub mod Stores
+pub mod Zeros

@@ -1,0 +1,34 @@
+-- Zeros after zeros, and rising numbers from their other end. Assumes nothing.
+use mathlib.Core.Path.{_≡_, refl, sym, ap, _∙_}
+use mathlib.Core.Bool.{Bool, true, false}
+use mathlib.Core.List.{List, [], _∷_, _++_, reverse, reverse-cons, append-assoc}
+use Prim.Native.Nat.{ℕ, zero, suc, _+_, _≤_, _<_}
+use native.Mathlib.Omega.{arith}
+use borrow.Author.Tests.{lt-ltb}
+use lib.Dec.{ltb}
+use Rattle.laws.specs.Basics.{every, rising, zeros, basics}
+use Rattle.laws.proofs.Tests.{both-true}
+
+pub zeros-append : (a b : ℕ) → zeros a ++ zeros b ≡ zeros (a + b)
+unfolding basics
+zeros-append zero b = let e : b ≡ 0 + b = omega arith in ap zeros e
+zeros-append (suc a) b = let e : suc (a + b) ≡ suc a + b = omega arith in ap (λ (l : List ℕ). 0 ∷ l) (zeros-append a b) ∙ ap zeros e
+
+pub rising-last : (a n : ℕ) → rising a (suc n) ≡ rising a n ++ ((a + n) ∷ [])
+unfolding basics
+rising-last a zero = let e : a ≡ a + 0 = omega arith in ap (λ (x : ℕ). x ∷ []) e
+rising-last a (suc n) =
+    let e : suc a + n ≡ a + suc n = omega arith in
+    ap (λ (l : List ℕ). a ∷ l) (rising-last (suc a) n) ∙ ap (λ (x : ℕ). a ∷ (rising (suc a) n ++ (x ∷ []))) e
+
+-- the highest first
+pub falling : (a n : ℕ) → reverse (rising a (suc n)) ≡ (a + n) ∷ reverse (rising a n)
+falling a n =
+    ap reverse (rising-last a n) ∙ mathlib.Core.List.reverse-append (rising a n) ((a + n) ∷ [])
+
+-- n numbers from a on, highest first, are below a + n
+pub falling-below : (a n b : ℕ) → a + n ≤ b → every (λ s. ltb s b) (reverse (rising a n)) ≡ true
+unfolding basics
+falling-below a zero b h = refl
+falling-below a (suc n) b h =
+    ap (every (λ s. ltb s b)) (falling a n) ∙ both-true (lt-ltb (a + n) b (omega arith)) (falling-below a n b (omega arith))

@@ -1,0 +1,6 @@
+pub mod Growth
+pub mod Steps
+pub mod Written
+pub mod FreeWords
+pub mod FreeMap
+pub mod Allocating
