@@ -6,3 +6,4 @@ pub mod TwoBits
 pub mod SoundLaws
 pub mod EqualLaws
 pub mod Flat
+pub mod Growth
