@@ -7,3 +7,4 @@ pub mod SoundLaws
 pub mod EqualLaws
 pub mod Flat
 pub mod Growth
+pub mod Good
