@@ -11,11 +11,11 @@ use native.Mathlib.Omega.{arith}
 use native.Mathlib.Decide.{decLt, ℕ-discrete}
 use borrow.Author.Tests.{ltb-true, leb-true, eqb-true, lt-ltb, le-leb, eq-eqb, ne-eqb}
 use lib.Dec.{T, eqb, leb, ltb}
-use lib.ListN.{length, getD, set, take, drop, List·getD-eq-default}
+use lib.ListN.{length, getD, set, take, drop, length-map, List·getD-eq-default}
 use Rattle.laws.specs.Basics.{choose, both, either, every, every-below, count, sum, basics}
 use Rattle.laws.proofs.Tests.{true≢false, both-left, both-right, both-true, either-cases, either-left, either-right, below-all, all-below}
 use Rattle.laws.proofs.Sums.{sum-below, length-by-count}
-use Rattle.laws.proofs.Pointwise.{every-all, all-every, every-at, count-past, past-count, getD-part, length-part}
+use Rattle.laws.proofs.Pointwise.{every-all, all-every, every-at, count-past, count-here, count-other, past-count, getD-part, length-part}
 use Rattle.rules.specs.Numbers.{bits32}
 use Rattle.rules.specs.Map.{state-of, is-allocated, map-rules}
 use Rattle.rules.specs.Cells.{Scalar, undefined, nil, eof, void, bool, char, number, Value, slot, scalar, Block, block, Cell, plain, pair, symbol, string, vector, is-symbol}
@@ -209,3 +209,170 @@ unfolding sound-rules apart
 blocks-are used shows h p q =
     both-true (all-every _ (plain undefined) (h .cells) (λ s l. p s))
     (all-every _ (plain undefined) (h .cells) (λ s l. all-every _ (plain undefined) (h .cells) (λ t m. q s t)))
+
+-- ---- both ways
+
+one-once : (h : Heap) (s : ℕ) → either (is-free h s) (is-allocated (h .map) s) ≡ true → count s (h .free) ≡ choose (is-free h s) 1 0 → count s (h .free) + state-of (h .map) s ≡ 1
+unfolding sound-rules map-rules
+one-once h s settled once = go (is-free h s) refl settled once
+  where
+    go : (b : Bool) → is-free h s ≡ b → either b (is-allocated (h .map) s) ≡ true → count s (h .free) ≡ choose b 1 0 → count s (h .free) + state-of (h .map) s ≡ 1
+    go true q p o = omega (arith, eqb-true (state-of (h .map) s) 0 q)
+    go false q p o = omega (arith, eqb-true (state-of (h .map) s) 1 p)
+
+free-when : (h : Heap) (s n : ℕ) → n + state-of (h .map) s ≡ 1 → n ≡ choose (is-free h s) 1 0
+unfolding sound-rules
+free-when h s n e =
+    elim (ℕ-discrete (state-of (h .map) s) 0) [
+      | yes z ↦ (let o : n ≡ 1 = omega arith in o) ∙ ap (λ (b : Bool). choose b 1 0) (sym (eq-eqb (state-of (h .map) s) 0 z))
+      | no z ↦ (let o : n ≡ 0 = omega arith in o) ∙ ap (λ (b : Bool). choose b 1 0) (sym (ne-eqb (state-of (h .map) s) 0 z))
+    ]
+
+settled-when : (h : Heap) (s n : ℕ) → n + state-of (h .map) s ≡ 1 → either (is-free h s) (is-allocated (h .map) s) ≡ true
+unfolding sound-rules map-rules
+settled-when h s n e =
+    elim (ℕ-discrete (state-of (h .map) s) 0) [
+      | yes z ↦ either-left _ (eq-eqb (state-of (h .map) s) 0 z)
+      | no z ↦ either-right (is-free h s) (eq-eqb (state-of (h .map) s) 1 (omega arith))
+    ]
+
+-- "A heap is sound": from the test to the facts
+pub good : (h : Heap) → 4 ≤ h .chunk → h .chunk % 4 ≡ 0 → length (h .map) ≡ capacity h / 4 → heap-sound h ≡ true → Good h
+unfolding sound-rules entry-at
+good h least whole size s =
+    let s1 = both-right (cells-allowed h) _ s in
+    let s2 = both-right (capacity-grown h) _ s1 in
+    let s3 = both-right (states-settled h) _ s2 in
+    let s4 = both-right (free-once h) _ s3 in
+    let s5 = both-right (free-undefined h) _ s4 in
+    let s6 = both-right (names-in-use h) _ s5 in
+    let s7 = both-right (blocks-sound (length (h .bytes)) text-block h) _ s6 in
+    let allowed = both-left (cells-allowed h) _ s in
+    let states = both-left (states-settled h) _ s2 in
+    let list = both-left (free-once h) _ s3 in
+    let named = both-left (names-in-use h) _ s5 in
+    let texts = both-left (blocks-sound (length (h .bytes)) text-block h) _ s6 in
+    let vectors = both-left (blocks-sound (length (h .elements)) vector-block h) _ s7 in
+    let table = both-right (blocks-sound (length (h .elements)) vector-block h) _ s7 in
+    let is : (i : ℕ) → named-in-use h (cell-at h i) ≡ true = every-at (named-in-use h) (plain undefined) (h .cells) named refl in
+    record {
+      chunk-least = least;
+      chunk-fours = whole;
+      growth = reaches-reached most-growths (h .chunk) (capacity h) (h .chunk) (reached-first (h .chunk)) (both-left (capacity-grown h) _ s1);
+      map-size = size;
+      once =
+          λ i l.
+          one-once h i (below-all _ (capacity h) states i l)
+          (eqb-true _ _ (below-all _ (capacity h) (both-right (every (λ s. ltb s (capacity h)) (h .free)) _ list) i l));
+      past = count-past (capacity h) (h .free) (both-left (every (λ s. ltb s (capacity h)) (h .free)) _ list);
+      empty =
+          λ i z.
+          elim (decLt i (capacity h)) [
+            | no l ↦ List·getD-eq-default (h .cells) (plain undefined) (omega arith)
+            | yes l ↦
+                ⊎-elim (λ e. absurd (true≢false (sym e ∙ ap not (eq-eqb (state-of (h .map) i) 0 z))))
+                (λ e. is-undefined-cell (cell-at h i) e)
+                (either-cases (not (is-free h i)) _ (below-all _ (capacity h) (both-left (free-undefined h) _ s4) i l))
+          ];
+      cells =
+          λ i.
+          record {
+            allowed = every-at (cell-allowed h) (plain undefined) (h .cells) (both-left (every (cell-allowed h) (h .cells)) _ allowed) refl i;
+            linked = cell-linked h (cell-at h i) (is i);
+            held = cell-held h (cell-at h i) (is i) (blocks-lie (length (h .elements)) vector-block h refl vectors i);
+            text-in = blocks-lie (length (h .bytes)) text-block h refl texts i;
+            vector-in = blocks-lie (length (h .elements)) vector-block h refl vectors i;
+          };
+      texts = blocks-apart (length (h .bytes)) text-block h refl texts;
+      vectors = blocks-apart (length (h .elements)) vector-block h refl vectors;
+      elements = every-at value-allowed (scalar undefined) (h .elements) (both-right (every (cell-allowed h) (h .cells)) _ allowed) refl;
+      entries = every-all (entry-sound h) (record { slot = 0; scope = 0 }) (h .table) (both-left (every (entry-sound h) (h .table)) _ table);
+      differ = λ i j l m. below-all _ j (below-all _ (length (h .table)) (both-right (every (entry-sound h) (h .table)) _ table) j m) i l;
+    }
+
+pub heap-sound-of : (h : Heap) → capacity h ≤ 4096 → Good h → heap-sound h ≡ true
+unfolding sound-rules entry-at
+heap-sound-of h small g =
+    both-true
+    (both-true (all-every (cell-allowed h) (plain undefined) (h .cells) (λ i l. g .cells i .allowed))
+    (all-every value-allowed (scalar undefined) (h .elements) (λ i l. g .elements i)))
+    (both-true (reached-reaches (h .chunk) (capacity h) (g .chunk-least) small (g .growth))
+    (both-true (all-below _ (capacity h) (λ i l. settled-when h i (count i (h .free)) (g .once i l)))
+    (both-true
+    (both-true (past-count (capacity h) (h .free) (g .past))
+    (all-below _ (capacity h) (λ i l. eq-eqb _ _ (free-when h i (count i (h .free)) (g .once i l)))))
+    (both-true (all-below _ (capacity h) (λ i l. shows-free i))
+    (both-true (all-every (named-in-use h) (plain undefined) (h .cells) (λ i l. cell-named h (cell-at h i) (g .cells i)))
+    (both-true (blocks-are (length (h .bytes)) text-block h (λ i. g .cells i .text-in) (g .texts))
+    (both-true (blocks-are (length (h .elements)) vector-block h (λ i. g .cells i .vector-in) (g .vectors))
+    (both-true (all-every (entry-sound h) (record { slot = 0; scope = 0 }) (h .table) (g .entries)) (all-below _ (length (h .table)) (λ j m. all-below _ j (λ i l. g .differ i j l m)))))))))))
+  where
+    shows-free : (i : ℕ) → either (not (is-free h i)) (is-undefined (cell-at h i)) ≡ true
+    shows-free i =
+        elim (ℕ-discrete (state-of (h .map) i) 0) [
+          | yes z ↦ either-right (not (is-free h i)) (ap is-undefined (g .empty i z))
+          | no z ↦ either-left _ (ap not (ne-eqb (state-of (h .map) i) 0 z))
+        ]
+
+-- ---- the counts: no more slots on the list, and no more entries, than there are slots
+
+-- numbers below n, each at most once: n at most
+sum-at-most : (n : ℕ) (f : ℕ → ℕ) → ((k : ℕ) → k < n → f k ≤ 1) → sum-below n f ≤ n
+unfolding sum-below
+sum-at-most zero f p = omega arith
+sum-at-most (suc n) f p = omega (arith, p n (omega arith), sum-at-most n f (λ k l. p k (omega arith)))
+
+is-true : {b : Bool} → b ≡ true → T b
+is-true {b} e = subst (λ (x : Bool). T x) (sym e) tt
+
+pub each-once : (n : ℕ) (l : List ℕ) → every (λ x. ltb x n) l ≡ true → ((k : ℕ) → k < n → count k l ≤ 1) → length l ≤ n
+each-once n l e p = omega (arith, length-by-count n l (is-true e), sum-at-most n (λ k. count k l) p)
+
+pub free-most : (h : Heap) → Good h → length (h .free) ≤ capacity h
+free-most h g =
+    each-once (capacity h) (h .free) (past-count (capacity h) (h .free) (g .past)) (λ k l. omega (arith, g .once k l))
+
+-- numbers that differ pairwise stand once each
+absent : (l : List ℕ) (s : ℕ) → ((j : ℕ) → j < length l → s ≡ getD l j 0 → ⊥) → count s l ≡ 0
+unfolding basics
+absent [] s p = refl
+absent (x ∷ l) s p =
+    count-other s x l (λ e. p 0 (omega arith) e) ∙ absent l s (λ j k e. p (suc j) (omega arith) e)
+
+differ-once : (l : List ℕ) → ((i j : ℕ) → i < j → j < length l → getD l i 0 ≡ getD l j 0 → ⊥) → (s : ℕ) → count s l ≤ 1
+unfolding basics
+differ-once [] p s = omega arith
+differ-once (x ∷ l) p s =
+    elim (ℕ-discrete s x) [
+      | yes e ↦ omega (arith, count-here s x l e, absent l s (λ j k q. p 0 (suc j) (omega arith) (omega arith) (sym e ∙ q)))
+      | no d ↦ omega (arith, count-other s x l d, differ-once l (λ i j k m e. p (suc i) (suc j) (omega arith) (omega arith) e) s)
+    ]
+
+abbrev no-entry : Entry
+no-entry = record { slot = 0; scope = 0 }
+
+getD-slots : (t : List Entry) (i : ℕ) → getD (map (λ (e : Entry). e .slot) t) i 0 ≡ getD t i no-entry .slot
+getD-slots [] i = refl
+getD-slots (e ∷ t) zero = refl
+getD-slots (e ∷ t) (suc i) = getD-slots t i
+
+pub table-most : (h : Heap) → Good h → length (h .table) ≤ capacity h
+unfolding sound-rules entry-at
+table-most h g =
+    let slots = map (λ (e : Entry). e .slot) (h .table) in
+    let size = length-map (h .table) (λ (e : Entry). e .slot) in
+    let below : every (λ x. ltb x (capacity h)) slots ≡ true = all-every (λ x. ltb x (capacity h)) 0 slots
+    (λ i l.
+    ap (λ (x : ℕ). ltb x (capacity h)) (getD-slots (h .table) i)
+    ∙ both-left (ltb (entry-at h i .slot) (capacity h)) _ (both-left (in-use h (entry-at h i .slot)) _ (g .entries i (omega arith))))
+    in
+    let m = each-once (capacity h) slots below
+    (λ k l.
+    differ-once slots
+    (λ i j m n e.
+    true≢false
+    (sym (both-left (not (eqb (entry-at h i .slot) (entry-at h j .slot))) _ (g .differ i j m (omega arith)))
+    ∙ ap not (eq-eqb _ _ (sym (getD-slots (h .table) i) ∙ e ∙ getD-slots (h .table) j))))
+    k)
+    in
+    omega arith
