@@ -8,3 +8,4 @@ pub mod EqualLaws
 pub mod Flat
 pub mod Growth
 pub mod Good
+pub mod Keeping
