@@ -9,3 +9,4 @@ pub mod Flat
 pub mod Growth
 pub mod Good
 pub mod Keeping
+pub mod Allocate
