@@ -102,3 +102,9 @@ module _ {A : Type 0} where
   pub part-append : (l m : List A) (p n : ℕ) → p + n ≤ length l → take n (drop p (l ++ m)) ≡ take n (drop p l)
   part-append l m p n h =
       ap (take n) (drop-append-le p l m (omega arith)) ∙ take-append-le n (drop p l) m (omega (arith, length-drop p l))
+
+-- a test that follows from another
+pub every-weaker : {A : Type 0} (f g : A → Bool) → ((a : A) → f a ≡ true → g a ≡ true) → (l : List A) → every f l ≡ true → every g l ≡ true
+unfolding basics
+every-weaker f g p [] e = refl
+every-weaker f g p (x ∷ l) e = both-true (p x (both-left (f x) _ e)) (every-weaker f g p l (both-right (f x) _ e))

@@ -10,3 +10,4 @@ pub mod Growth
 pub mod Good
 pub mod Keeping
 pub mod Allocate
+pub mod Grows
