@@ -2,15 +2,15 @@
 use mathlib.Core.Path.{_≡_, refl, sym, ap, _∙_}
 use mathlib.Core.Bool.{Bool, true, false}
 use mathlib.Core.List.{List, [], _∷_, _++_, map, reverse, reverse-cons}
-use mathlib.Core.Logic.{_≢_}
+use mathlib.Core.Option.{Option, none, some}
 use Prim.Native.Nat.{ℕ, zero, suc, _+_, _-_, _≤_, _<_}
 use native.Mathlib.Omega.{arith}
 use native.Mathlib.Decide.{ℕ-discrete, decLt}
 use borrow.Author.Tests.{ltb-true, lt-ltb, eq-eqb, ne-eqb, eqb-true}
 use lib.Dec.{eqb, ltb}
-use lib.ListN.{length, getD, set, take, drop, length-append, length-take, length-drop, List·getD-append, List·getD-eq-default}
+use lib.ListN.{length, getD, replicate, take, drop, length-append, length-take, length-drop, List·getD-append, List·getD-eq-default}
 use lib.Seq.{getD-take, getD-drop, getD-append-add, take-append-le, drop-append-le, take-append-add, length-take-le}
-use Rattle.laws.specs.Basics.{both, choose, every, count, rising, basics}
+use Rattle.laws.specs.Basics.{both, choose, every, find, count, rising, basics}
 use Rattle.laws.proofs.Tests.{both-left, both-right, both-true, true≢false}
 use Rattle.laws.proofs.Lists.{count-rising, count-rising-in}
 use Rattle.laws.proofs.Zeros.{falling, rising-last}
@@ -108,3 +108,45 @@ pub every-weaker : {A : Type 0} (f g : A → Bool) → ((a : A) → f a ≡ true
 unfolding basics
 every-weaker f g p [] e = refl
 every-weaker f g p (x ∷ l) e = both-true (p x (both-left (f x) _ e)) (every-weaker f g p l (both-right (f x) _ e))
+
+pub every-same : {A : Type 0} (f : A → Bool) (n : ℕ) (a : A) → f a ≡ true → every f (replicate n a) ≡ true
+unfolding basics
+every-same f zero a e = refl
+every-same f (suc n) a e = both-true e (every-same f n a e)
+
+-- ---- find
+
+-- the first of which the test holds, by its place
+pub record Found {A : Type 0} (f : A → Bool) (d : A) (l : List A) (a : A) : Type 0 where
+  pub place : ℕ
+  pub below : place < length l
+  pub is : getD l place d ≡ a
+  pub holds : f a ≡ true
+
+some-value : {A : Type 0} {a b : A} → some a ≡ some b → a ≡ b
+some-value e = cc
+
+none-some : {A : Type 0} {a : A} → none ≡ some a → ⊥
+none-some e = let z : _≡_ {A = ℕ} 0 1 = cc in omega arith
+
+module _ {A : Type 0} (f : A → Bool) (d : A) where
+  pub find-some : (l : List A) (a : A) → find f l ≡ some a → Found f d l a
+  unfolding basics
+  find-some [] a e = absurd (none-some e)
+  find-some (x ∷ l) a e = by (f x) refl (λ p. find-some l a p) e
+    where
+      by : (b : Bool) → f x ≡ b → (find f l ≡ some a → Found f d l a) → elim b as (λ b. Option A) [ true ↦ some x | false ↦ find f l ] ≡ some a → Found f d (x ∷ l) a
+      by true q again p = record { place = 0; below = omega arith; is = some-value p; holds = ap f (sym (some-value p)) ∙ q }
+      by false q again p =
+          let r = again p in
+          record { place = suc (r .place); below = omega (arith, r .below); is = r .is; holds = r .holds }
+
+  pub find-none : (l : List A) → find f l ≡ none → (i : ℕ) → i < length l → f (getD l i d) ≡ false
+  unfolding basics
+  find-none [] e i h = absurd (omega arith)
+  find-none (x ∷ l) e i h = by (f x) refl (λ p i h. find-none l p i h) e i h
+    where
+      by : (b : Bool) → f x ≡ b → (find f l ≡ none → (i : ℕ) → i < length l → f (getD l i d) ≡ false) → _≡_ {A = Option A} (elim b [ true ↦ some x | false ↦ find f l ]) none → (i : ℕ) → i < length (x ∷ l) → f (getD (x ∷ l) i d) ≡ false
+      by true q again p i h = absurd (none-some (sym p))
+      by false q again p zero h = q
+      by false q again p (suc i) h = again p i (omega arith)
