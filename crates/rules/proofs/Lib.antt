@@ -11,3 +11,4 @@ pub mod Good
 pub mod Keeping
 pub mod Allocate
 pub mod Grows
+pub mod PutCells
