@@ -12,3 +12,4 @@ pub mod Keeping
 pub mod Allocate
 pub mod Grows
 pub mod PutCells
+pub mod PutGood

@@ -46,7 +46,7 @@ Clear-of n h c = (b : Block) → b .place + b .size ≤ n → Clear b h → apar
 pub clear-empty : (n : ℕ) (h : Heap) (c : Cell) → vector-block c .size ≡ 0 → Clear-of n h c
 clear-empty n h c e b l x = apart-sym (vector-block c) b (apart-empty (vector-block c) b e)
 
-lies-none : (n : ℕ) → lies-in n (block 0 0) ≡ true
+pub lies-none : (n : ℕ) → lies-in n (block 0 0) ≡ true
 unfolding sound-rules
 lies-none n = both-true (le-leb 0 n (omega arith)) refl
 
