@@ -94,13 +94,13 @@ Labels begun m = (l : ℕ) → member l begun ≡ true → in-use (m .heap) (slo
 
 -- the labels begun after a datum
 unfoldable mutual
-  begun-by : Datum → List ℕ → List ℕ
+  pub begun-by : Datum → List ℕ → List ℕ
   begun-by (Datum.atom a) b = b
   begun-by (Datum.pair a d) b = begun-by d (begun-by a b)
   begun-by (Datum.vector ds) b = begun-all ds b
   begun-by (Datum.def l d) b = begun-by d (l ∷ b)
 
-  begun-all : Data → List ℕ → List ℕ
+  pub begun-all : Data → List ℕ → List ℕ
   begun-all end b = b
   begun-all (more d ds) b = begun-all ds (begun-by d b)
 
@@ -281,6 +281,13 @@ module _ (m : Making) (g : Good (m .heap)) (n : ℕ) where
           with-elements-new (m .heap) (replicate n (scalar undefined)) k (omega arith)
           ∙ getD-replicate n (k - length (m .heap .elements)) (scalar undefined) (scalar undefined) (omega arith)
 
+  place-low : 0 < n → length (m .heap .elements) ≤ vector-room .place
+  place-low l = by at-behind
+    where
+      by : Behind (length (m .heap .elements)) vector-room → length (m .heap .elements) ≤ vector-room .place
+      by (nothing e z) = absurd (omega arith)
+      by (after p e) = omega arith
+
   vector-done : (begun : List ℕ) (m' : Making) → n ≤ most-vector → All-done (length (m .heap .elements)) begun (with-block n m) m' → Put-done (length (m .heap .elements)) begun m (new-cell (Cell.vector vector-room) m')
   unfolding sound-rules call-rules
   vector-done begun m' small a =
@@ -359,3 +366,77 @@ module _ (l : ℕ) (m : Making) (g : Good (m .heap)) where
             };
         labels = λ x e. with-cell-used h s c (slot-of x (p .making .labels)) ∙ d .labels x e;
       }
+
+-- ---- the induction
+
+mutual
+  unfolding begun-by begun-all put-rules datum-rules basics first
+
+  pub put-done : (d : Datum) (m : Making) (begun : List ℕ) (rest : List Node) → Good (m .heap) → Labels begun m → every node-fits (nodes d) ≡ true → every node-within (nodes d) ≡ true → refers-early begun (nodes d ++ rest) ≡ false → Put-done (length (m .heap .elements)) (begun-by d begun) m (put d m)
+  put-done (Datum.atom a) m begun rest g ls f w e =
+      atom-done (length (m .heap .elements)) a m begun rest g ls (both-left (node-fits (Node.atom a)) _ f) (both-left (node-within (Node.atom a)) _ w) e
+  put-done (Datum.pair a d) m begun rest g ls f w e =
+      let early = ap (refers-early begun) (sym (append-assoc (nodes a) (nodes d) rest)) ∙ e in
+      let middle = begun-by a begun in
+      let x = in-slot (put a m) in
+      let fa = every-front node-fits (nodes a) (nodes d) f in
+      let fd = every-back node-fits (nodes a) (nodes d) f in
+      let wa = every-front node-within (nodes a) (nodes d) w in
+      let wd = every-back node-within (nodes a) (nodes d) w in
+      let car = in-slot-put (length (m .heap .elements)) middle m (put a m) (put-done a m begun (nodes d ++ rest) g ls fa wa early) in
+      let cdr =
+      in-slot-put (length (x .making .heap .elements)) (begun-by d middle) (x .making) (put d (x .making))
+      (put-done d (x .making) middle rest (car .here .good) (car .labels) fd wd (later a begun (nodes d ++ rest) early))
+      in
+      pair-done (length (m .heap .elements)) (begun-by d middle) middle m x (in-slot (put d (x .making))) (car .here .grows .room) car cdr
+  put-done (Datum.vector ds) m begun rest g ls f w e =
+      let n = how-many ds in
+      let small = leb-true n most-vector (both-left (leb n most-vector) _ w) in
+      let fs = both-right (node-fits (Node.vector n)) _ f in
+      let ws = both-right (leb n most-vector) _ w in
+      vector-done m g n (begun-all ds begun) (put-all ds (block-after (m .heap .elements) n .place) (with-block n m)) small
+      (put-all-done ds (block-after (m .heap .elements) n .place) (with-block n m) begun rest (length (m .heap .elements))
+      (omega (arith, with-block-length m g n)) (place-low m g n) (with-block-good m g n) ls fs ws e)
+  put-done (Datum.def l d) m begun rest g ls f w e =
+      let fs = both-right (node-fits (Node.def l)) _ f in
+      let ws = both-right (node-within (Node.def l)) _ w in
+      def-done l m g (begun-by d (l ∷ begun)) (put d (labelled l (alloc (m .heap)) m))
+      (put-done d (labelled l (alloc (m .heap)) m) (l ∷ begun) rest (took (m .heap) g .good) (first-labels l m g begun ls) fs ws e)
+
+  pub put-all-done : (ds : Data) (k : ℕ) (m : Making) (begun : List ℕ) (rest : List Node) (from : ℕ) → from ≤ length (m .heap .elements) → (0 < how-many ds → from ≤ k) → Good (m .heap) → Labels begun m → every node-fits (all-nodes ds) ≡ true → every node-within (all-nodes ds) ≡ true → refers-early begun (all-nodes ds ++ rest) ≡ false → All-done from (begun-all ds begun) m (put-all ds k m)
+  put-all-done end k m begun rest from low at g ls f w e =
+      record { good = g; grows = grows-refl from (m .heap); labels = ls }
+  put-all-done (more d ds) k m begun rest from low at g ls f w e =
+      let early = ap (refers-early begun) (sym (append-assoc (nodes d) (all-nodes ds) rest)) ∙ e in
+      let p = put d m in
+      let h = p .making .heap in
+      let one =
+      put-done d m begun (all-nodes ds ++ rest) g ls (every-front node-fits (nodes d) (all-nodes ds) f)
+      (every-front node-within (nodes d) (all-nodes ds) w) early
+      in
+      let here : from ≤ k = at (omega arith) in
+      let gr =
+      grows-trans (grows-less low (one .done .grows)) (grows-element from h k (p .value) here (one .done .value .named)) (omega arith)
+      in
+      let others =
+      put-all-done ds (suc k) (store-at k p) (begun-by d begun) rest from (omega (arith, gr .room)) (λ z. omega arith)
+      (with-element-good h k (p .value) (one .done .good) (one .done .value .allowed) (one .done .value .named)) (one .labels)
+      (every-back node-fits (nodes d) (all-nodes ds) f)
+      (every-back node-within (nodes d) (all-nodes ds) w)
+      (later d begun (all-nodes ds ++ rest) early)
+      in
+      record { good = others .good; grows = grows-trans gr (others .grows) (omega arith); labels = others .labels }
+
+-- ---- a whole put
+
+no-labels : (h : Heap) → Labels [] (making h [])
+unfolding basics
+no-labels h l e = absurd (true≢false (sym e))
+
+-- the put of a datum that fits, is within the limits and refers to no label early, in a good heap
+pub put-datum-done : (d : Datum) (h : Heap) → Good h → datum-fits d ≡ true → every node-within (nodes d) ≡ true → early-reference d ≡ false → In-slot (length (h .elements)) h (put-datum d h)
+unfolding put-rules datum-rules
+put-datum-done d h g f w e =
+    in-slot-put (length (h .elements)) (begun-by d []) (making h []) (put d (making h []))
+    (put-done d (making h []) [] [] g (no-labels h) f w (ap (refers-early []) (append-nil (nodes d)) ∙ e))
+    .here
