@@ -13,3 +13,4 @@ pub mod Allocate
 pub mod Grows
 pub mod PutCells
 pub mod PutGood
+pub mod PutSound
