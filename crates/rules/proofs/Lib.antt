@@ -14,3 +14,4 @@ pub mod Grows
 pub mod PutCells
 pub mod PutGood
 pub mod PutSound
+pub mod StoreSound

@@ -10,24 +10,26 @@ use native.Mathlib.Omega.{arith}
 use native.Mathlib.Decide.{decLt, ℕ-discrete}
 use borrow.Author.Tests.{eq-eqb, ne-eqb, eqb-true, leb-true, ltb-true, le-leb, not-false}
 use lib.Dec.{eqb, leb, ltb}
+use lib.Seq.{ext-getD}
 use lib.ListN.{length, getD, replicate, length-append, length-replicate, getD-replicate}
 use Rattle.laws.specs.Basics.{choose, both, either, every, find, member, basics}
 use Rattle.laws.proofs.Tests.{true≢false, both-left, both-right, both-true, either-cases, every-front, every-back}
-use Rattle.laws.proofs.Pointwise.{every-same, getD-part}
+use Rattle.laws.proofs.Pointwise.{every-same, getD-part, length-part}
 use Rattle.rules.specs.Numbers.{bits32, most-string, most-name, most-vector}
 use Rattle.rules.specs.Utf8.{utf8, utf8-rules}
+use Rattle.rules.specs.Map.{state-of, Free}
 use Rattle.rules.specs.Cells.{Scalar, undefined, nil, eof, void, bool, char, number, Value, slot, scalar, Block, block, Cell, plain, symbol, string}
 use Rattle.rules.specs.Nodes.{Atom, Node, node-fits, scalar-fits, text-fits, bytes, nodes-rules}
 use Rattle.rules.specs.Datum.{Datum, Data, end, more, how-many, nodes, all-nodes, node-within, refers-early, early-reference, datum-fits, datum-rules}
-use Rattle.rules.specs.Heap.{Heap, Entry, Given, capacity, cell-at, in-use, shown, block-after, with-cell, with-element, with-elements, alloc, heap-rules}
+use Rattle.rules.specs.Heap.{Heap, Entry, Given, capacity, cell-at, in-use, shown, part-of, text-of, elements-of, name-at, block-after, with-cell, with-element, with-elements, alloc, heap-rules}
 use Rattle.rules.specs.Sound.{scalar-allowed, value-allowed, value-named, text-block, vector-block, lies-in, sound-rules}
 use Rattle.rules.specs.Calls.{call-rules}
 use Rattle.rules.specs.Put.{Put, Making, Label, making, put-as, new-cell, in-slot, slot-in, with-label, slot-of, put-string, put-symbol, begin-label, labelled, end-label, with-block, store-at, put-atom, put, put-all, put-datum, put-rules}
-use Rattle.rules.proofs.Good.{element-at, apart, Cell-good, Good, used-slot}
-use Rattle.rules.proofs.Keeping.{lies-below, lies-more, apart-sym, apart-empty, Unlisted, with-cell-used, with-cell-good, with-elements-good, with-elements-new, with-element-good}
+use Rattle.rules.proofs.Good.{element-at, apart, Cell-good, Good, used-slot, not-used}
+use Rattle.rules.proofs.Keeping.{text-kept, name-kept, lies-below, lies-more, apart-sym, apart-empty, Unlisted, with-cell-used, with-cell-good, with-elements-good, with-elements-new, with-element-good}
 use Rattle.rules.proofs.Allocate.{Took, took}
 use Rattle.rules.proofs.Grows.{Clear, Grows, unlisted-kept, unused-before, grows-refl, grows-trans, grows-less, grows-took, grows-elements, grows-element, grows-cell}
-use Rattle.rules.proofs.PutCells.{Value-good, Cell-fits, clear-empty, lies-none, pair-fits, shown-fits, shown-clear, Behind, nothing, after, behind, behind-apart, behind-lies, Done, In-slot, Slot-done, New, Atom-done, new-done, slot-good, new-cell-done, in-slot-done, took-unlisted, put-string-done, put-symbol-done}
+use Rattle.rules.proofs.PutCells.{Value-good, Cell-fits, clear-empty, lies-none, pair-fits, shown-fits, shown-clear, Behind, nothing, after, behind, behind-apart, behind-lies, Done, In-slot, Slot-done, New, Atom-done, new-done, slot-good, new-cell-done, in-slot-done, took-unlisted, put-string-done, grows-wider, put-symbol-done}
 
 -- ---- labels
 
@@ -440,3 +442,61 @@ put-datum-done d h g f w e =
     in-slot-put (length (h .elements)) (begun-by d []) (making h []) (put d (making h []))
     (put-done d (making h []) [] [] g (no-labels h) f w (ap (refers-early []) (append-nil (nodes d)) ∙ e))
     .here
+
+-- ---- what a put leaves, in the paper's words
+
+-- a part of a list is the same where the elements are
+part-same : {A : Type 0} (d : A) (l l' : List A) (b : Block) → b .place + b .size ≤ length l → length l ≤ length l' → ((k : ℕ) → k < length l → getD l' k d ≡ getD l k d) → part-of l' b ≡ part-of l b
+part-same d l l' b low longer same =
+    let here = length-part l (b .place) (b .size) low in
+    let there = length-part l' (b .place) (b .size) (omega arith) in
+    ext-getD d (part-of l' b) (part-of l b) (there ∙ sym here)
+    (λ i k.
+    getD-part l' (b .place) (b .size) i d (omega arith) ∙ same (b .place + i) (omega arith)
+    ∙ sym (getD-part l (b .place) (b .size) i d (omega arith)))
+
+-- "every cell, element and block that was there before is as it was", and the slots taken were not in use
+pub record Kept (h : Heap) (p : Put) : Type 0 where
+  pub good : Good (p .making .heap)
+  pub is : p .value ≡ slot (slot-in p)
+  pub answer : in-use (p .making .heap) (slot-in p) ≡ true
+  pub used : (s : ℕ) → in-use h s ≡ true → in-use (p .making .heap) s ≡ true
+  pub cells : (s : ℕ) → in-use h s ≡ true → cell-at (p .making .heap) s ≡ cell-at h s
+  pub names : (s : ℕ) → in-use h s ≡ true → name-at (p .making .heap) s ≡ name-at h s
+  pub texts : (s : ℕ) → text-of (p .making .heap) (text-block (cell-at h s)) ≡ text-of h (text-block (cell-at h s))
+  pub vectors : (s : ℕ) → elements-of (p .making .heap) (vector-block (cell-at h s)) ≡ elements-of h (vector-block (cell-at h s))
+  pub elements : (k : ℕ) → k < length (h .elements) → element-at (p .making .heap) k ≡ element-at h k
+  pub text : List ℕ
+  pub bytes : p .making .heap .bytes ≡ h .bytes ++ text
+  pub entries : List Entry
+  pub table : p .making .heap .table ≡ h .table ++ entries
+  -- a slot that was taken was Free, below the capacity or past it
+  pub taken : (s : ℕ) → in-use (p .making .heap) s ≡ true → in-use h s ≡ false → state-of (h .map) s ≡ Free
+  -- and a new entry leads to one
+  pub new : every (λ (e : Entry). not (in-use h (e .slot))) entries ≡ true
+
+pub put-kept : (d : Datum) (h : Heap) → Good h → datum-fits d ≡ true → every node-within (nodes d) ≡ true → early-reference d ≡ false → Kept h (put-datum d h)
+put-kept d h g f w e =
+    let k = put-datum-done d h g f w e in
+    let after : Heap = put-datum d h .making .heap in
+    let gr = k .grows in
+    record {
+      good = k .good;
+      is = k .is;
+      answer = k .used;
+      used = gr .used;
+      cells = gr .cells;
+      names = λ s u. name-kept h after (grows-wider gr) s (g .cells s) (gr .cells s u);
+      texts = λ s. text-kept h after (grows-wider gr) (text-block (cell-at h s)) (g .cells s .text-in);
+      vectors =
+          λ s.
+          part-same (scalar undefined) (h .elements) (after .elements) (vector-block (cell-at h s))
+          (lies-below (length (h .elements)) (vector-block (cell-at h s)) (g .cells s .vector-in)) (gr .room) (gr .elements);
+      elements = gr .elements;
+      text = gr .text;
+      bytes = gr .bytes;
+      entries = gr .entries;
+      table = gr .table;
+      taken = λ s u n. not-used h g s n;
+      new = gr .new;
+    }

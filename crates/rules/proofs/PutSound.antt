@@ -29,8 +29,7 @@ use Rattle.rules.proofs.Growth.{fitting-least, reached-whole}
 use Rattle.rules.proofs.Good.{Good, element-at, chunk-positive, not-used, good as good-of, heap-sound-of, free-most, table-most}
 use Rattle.rules.proofs.Allocate.{Within, inside, over}
 use Rattle.rules.proofs.Grows.{Grows}
-use Rattle.rules.proofs.PutCells.{In-slot}
-use Rattle.rules.proofs.PutGood.{put-datum-done}
+use Rattle.rules.proofs.PutGood.{put-datum-done, Kept, put-kept}
 
 -- ---- sound lists hold a good heap, and a good heap that fits is written as sound lists
 
@@ -96,14 +95,14 @@ unless-keeps P ((false ⇒ r) ∷ ts) a refuse p q = unless-keeps P ts a refuse 
 
 -- ---- put
 
--- what an accepted put leaves: `In-slot` says that the heap is good, and what of it is as it was
+-- what an accepted put leaves: `Kept` says what is as it was
 pub record Put-accepted (l : Lent) (x : Left ℕ) (d : Datum) : Type 0 where
   pub answer : x .answer ≡ accepted (slot-in (put-datum d (heap-of l)))
   pub lent : x .lent ≡ lent-of (rooms-of l) (put-datum d (heap-of l) .making .heap)
   pub lists-sound : sound (x .lent) ≡ true
   pub heap : heap-of (x .lent) ≡ put-datum d (heap-of l) .making .heap
   pub rooms : rooms-of (x .lent) ≡ rooms-of l
-  pub done : In-slot (length (heap-of l .elements)) (heap-of l) (put-datum d (heap-of l))
+  pub kept : Kept (heap-of l) (put-datum d (heap-of l))
 
 pub data Put-left (l : Lent) (x : Left ℕ) : Type 0 where
   accepts : (d : Datum) → Put-accepted l x d → Put-left l x
@@ -175,7 +174,7 @@ module _ (l : Lent) (scratch : List ℕ) (s : sound l ≡ true) where
             (t .elements);
         heap = heap-lent (rooms-of l) after f;
         rooms = rooms-lent (rooms-of l) after f;
-        done = k;
+        kept = put-kept d before g fits (t .within) (t .early);
       }
 
   tree-left : (d : Datum) → datum-fits d ≡ true → Put-left l (put-tree l scratch before d)
