@@ -1,18 +1,17 @@
 -- Tests over lists, element by element; how often a number stands in a list; parts of a list that grew. Assumes nothing.
 use mathlib.Core.Path.{_≡_, refl, sym, ap, _∙_}
 use mathlib.Core.Bool.{Bool, true, false}
-use mathlib.Core.List.{List, [], _∷_, _++_, map, reverse, reverse-cons}
+use mathlib.Core.List.{List, [], _∷_, _++_, reverse}
 use mathlib.Core.Option.{Option, none, some}
-use Prim.Native.Nat.{ℕ, zero, suc, _+_, _-_, _≤_, _<_}
+use Prim.Native.Nat.{ℕ, zero, suc, _+_, _≤_, _<_}
 use native.Mathlib.Omega.{arith}
 use native.Mathlib.Decide.{ℕ-discrete, decLt}
-use borrow.Author.Tests.{ltb-true, lt-ltb, eq-eqb, ne-eqb, eqb-true}
-use lib.Dec.{eqb, ltb}
-use lib.ListN.{length, getD, replicate, take, drop, length-append, length-take, length-drop, List·getD-append, List·getD-eq-default}
-use lib.Seq.{getD-take, getD-drop, getD-append-add, take-append-le, drop-append-le, take-append-add, length-take-le}
-use Rattle.laws.specs.Basics.{both, choose, every, find, count, rising, basics}
-use Rattle.laws.proofs.Tests.{both-left, both-right, both-true, true≢false}
-use Rattle.laws.proofs.Lists.{count-rising, count-rising-in}
+use borrow.Author.Tests.{ltb-true, lt-ltb, eq-eqb, ne-eqb}
+use lib.Dec.{ltb}
+use lib.ListN.{length, getD, replicate, take, drop, length-drop, List·getD-eq-default}
+use lib.Seq.{getD-take, getD-drop, take-append-le, drop-append-le, length-take-le}
+use Rattle.laws.specs.Basics.{choose, every, find, count, rising, basics}
+use Rattle.laws.proofs.Tests.{both-left, both-right, both-true}
 use Rattle.laws.proofs.Zeros.{falling, rising-last}
 
 -- ---- every

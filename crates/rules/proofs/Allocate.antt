@@ -3,24 +3,22 @@
 use mathlib.Core.Path.{_≡_, refl, sym, ap, _∙_, subst}
 use mathlib.Core.Bool.{Bool, true, false}
 use mathlib.Core.List.{List, [], _∷_, _++_, reverse, append-nil}
-use Prim.Native.Nat.{ℕ, zero, suc, _+_, _-_, _*_, _/_, _%_, _≤_, _<_}
+use Prim.Native.Nat.{ℕ, zero, suc, _+_, _-_, _/_, _%_, _≤_, _<_}
 use native.Mathlib.Omega.{arith}
 use native.Mathlib.Decide.{decLt, decLe, ℕ-discrete}
-use lib.Dec.{eqb, ltb}
 use lib.ListN.{length, getD, replicate, length-append, length-replicate, length-reverse}
-use Rattle.laws.specs.Basics.{choose, both, count, rising, zeros, basics}
-use Rattle.laws.proofs.Tests.{true≢false, both-left, both-right, both-true}
+use Rattle.laws.specs.Basics.{count, rising, zeros, basics}
+use Rattle.laws.proofs.Tests.{true≢false}
 use Rattle.laws.proofs.Lists.{length-zeros, length-rising, count-rising, count-rising-in}
 use Rattle.laws.proofs.Pointwise.{count-here, count-other, count-append, count-falling, count-rising-past}
-use Rattle.laws.proofs.Zeros.{falling}
-use Rattle.rules.specs.Map.{state-of, set-state, is-allocated, Allocated, map-rules}
-use Rattle.rules.specs.Cells.{undefined, Value, scalar, Cell, plain}
-use Rattle.rules.specs.Heap.{Heap, Entry, Given, capacity, cell-at, in-use, free-count, used-count, grown, fitting, most-growths, grow, pop, alloc, heap-rules}
+use Rattle.rules.specs.Map.{state-of, set-state, Allocated}
+use Rattle.rules.specs.Cells.{undefined, Value, scalar, plain}
+use Rattle.rules.specs.Heap.{Heap, Given, capacity, cell-at, in-use, used-count, grown, fitting, most-growths, grow, pop, alloc}
 use Rattle.rules.specs.Layout.{entry-at}
 use Rattle.rules.specs.Sound.{text-block, vector-block, value-named}
 use Rattle.rules.proofs.TwoBits.{set-state-length, state-same, state-other, state-behind}
-use Rattle.rules.proofs.Growth.{Reached, reached-next, reached-whole, Whole, grown-whole, rises, fours, fitting-grown, fitting-end}
-use Rattle.rules.proofs.Good.{element-at, apart, Cell-good, Good, Used-slot, used-slot, slot-used, chunk-positive, capacity-fours, capacity-positive, free-past, unused, used-below, free-most}
+use Rattle.rules.proofs.Growth.{reached-next, reached-whole, Whole, grown-whole, rises, fours, fitting-grown, fitting-end}
+use Rattle.rules.proofs.Good.{element-at, apart, Cell-good, Good, used-slot, slot-used, chunk-positive, capacity-fours, capacity-positive, free-past, unused, used-below, free-most}
 use Rattle.rules.proofs.Keeping.{Wider, value-wider, cell-kept, entries-kept, differs-kept}
 
 -- ---- growth

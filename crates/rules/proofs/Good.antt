@@ -4,24 +4,23 @@
 -- Document 01, "A heap is sound when". Assumes nothing.
 use mathlib.Core.Path.{_≡_, refl, sym, ap, _∙_, subst}
 use mathlib.Core.Bool.{Bool, true, false, not}
-use mathlib.Core.List.{List, [], _∷_, _++_, map}
+use mathlib.Core.List.{List, [], _∷_, map}
 use mathlib.Core.Logic.{⊎-elim}
-use Prim.Native.Nat.{ℕ, zero, suc, _+_, _-_, _*_, _/_, _%_, _≤_, _<_}
+use Prim.Native.Nat.{ℕ, zero, suc, _+_, _-_, _/_, _%_, _≤_, _<_}
 use native.Mathlib.Omega.{arith}
 use native.Mathlib.Decide.{decLt, ℕ-discrete}
 use borrow.Author.Tests.{ltb-true, leb-true, eqb-true, lt-ltb, le-leb, eq-eqb, ne-eqb}
 use lib.Dec.{T, eqb, leb, ltb}
-use lib.ListN.{length, getD, set, take, drop, length-map, List·getD-eq-default}
-use Rattle.laws.specs.Basics.{choose, both, either, every, every-below, count, sum, basics}
+use lib.ListN.{length, getD, length-map, List·getD-eq-default}
+use Rattle.laws.specs.Basics.{choose, either, every, count, basics}
 use Rattle.laws.proofs.Tests.{true≢false, both-left, both-right, both-true, either-cases, either-left, either-right, below-all, all-below}
 use Rattle.laws.proofs.Sums.{sum-below, length-by-count}
 use Rattle.laws.proofs.Pointwise.{every-all, all-every, every-at, count-past, count-here, count-other, past-count, getD-part, length-part}
-use Rattle.rules.specs.Numbers.{bits32}
 use Rattle.rules.specs.Map.{state-of, is-allocated, map-rules}
-use Rattle.rules.specs.Cells.{Scalar, undefined, nil, eof, void, bool, char, number, Value, slot, scalar, Block, block, Cell, plain, pair, symbol, string, vector, is-symbol}
-use Rattle.rules.specs.Heap.{Heap, Entry, capacity, cell-at, in-use, elements-of, part-of, most-growths, heap-rules}
+use Rattle.rules.specs.Cells.{undefined, nil, eof, void, bool, char, number, Value, slot, scalar, Block, block, Cell, plain, pair, symbol, string, vector}
+use Rattle.rules.specs.Heap.{Heap, Entry, capacity, cell-at, in-use, elements-of, most-growths}
 use Rattle.rules.specs.Layout.{entry-at}
-use Rattle.rules.specs.Sound.{value-allowed, cell-allowed, cells-allowed, capacity-grown, is-free, states-settled, free-once, is-undefined, free-undefined, value-named, named-in-use, names-in-use, text-block, vector-block, lies-in, same-or-disjoint, blocks-sound, entry-sound, entries-differ, table-sound, heap-sound, sound-rules}
+use Rattle.rules.specs.Sound.{value-allowed, cell-allowed, cells-allowed, capacity-grown, is-free, states-settled, free-once, is-undefined, free-undefined, value-named, named-in-use, names-in-use, text-block, vector-block, lies-in, same-or-disjoint, blocks-sound, entry-sound, entries-differ, heap-sound, sound-rules}
 use Rattle.rules.specs.Calls.{cell-in-use, call-rules}
 use Rattle.rules.proofs.TwoBits.{state-past}
 use Rattle.rules.proofs.Growth.{Reached, reached-first, reached-whole, reached-least, reached-reaches, reaches-reached, fours}

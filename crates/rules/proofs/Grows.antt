@@ -1,25 +1,24 @@
 -- What a put leaves of the heap that it began with: slots in use, their cells, texts, elements below a place and entries are
 -- as they were, and new entries lead to slots that were not in use. Document 01: "every cell, element and block that was
 -- there before is as it was". Assumes nothing.
-use mathlib.Core.Path.{_≡_, refl, sym, ap, _∙_, subst}
+use mathlib.Core.Path.{_≡_, refl, sym, ap, _∙_}
 use mathlib.Core.Bool.{Bool, true, false, not}
 use mathlib.Core.List.{List, [], _∷_, _++_, append-nil, append-assoc}
-use Prim.Native.Nat.{ℕ, zero, suc, _+_, _-_, _≤_, _<_}
+use Prim.Native.Nat.{ℕ, _+_, _-_, _≤_, _<_}
 use native.Mathlib.Omega.{arith}
-use native.Mathlib.Decide.{decLt, ℕ-discrete}
-use lib.Dec.{eqb, ltb}
-use lib.ListN.{length, getD, length-append, length-set, List·getD-append}
+use native.Mathlib.Decide.{decLt}
+use borrow.Author.Tests.{not-true}
+use lib.ListN.{length, getD, length-append, List·getD-append}
 use lib.Seq.{getD-append-add}
-use Rattle.laws.specs.Basics.{both, every, basics}
-use Rattle.laws.proofs.Tests.{true≢false, both-left, both-right, both-true, every-append}
+use Rattle.laws.specs.Basics.{every, basics}
+use Rattle.laws.proofs.Tests.{true≢false, both-true, every-append}
 use Rattle.laws.proofs.Pointwise.{every-all, every-weaker}
-use Rattle.rules.specs.Map.{state-of, is-allocated}
-use Rattle.rules.specs.Cells.{undefined, Value, scalar, Block, Cell, plain}
-use Rattle.rules.specs.Heap.{Heap, Entry, Given, capacity, cell-at, in-use, used-count, fitting, most-growths, with-cell, with-element, with-bytes, with-elements, with-entry, alloc}
+use Rattle.rules.specs.Cells.{undefined, Value, scalar, Block, Cell}
+use Rattle.rules.specs.Heap.{Heap, Entry, Given, capacity, cell-at, in-use, used-count, fitting, most-growths, with-cell, with-element, with-bytes, with-elements, with-entry}
 use Rattle.rules.specs.Layout.{entry-at}
-use Rattle.rules.specs.Sound.{text-block, vector-block, value-named}
-use Rattle.rules.proofs.Good.{element-at, apart, Cell-good, Good, used-slot}
-use Rattle.rules.proofs.Keeping.{Wider, value-wider, Unlisted, with-cell-other, with-cell-capacity, with-cell-used, with-cell-wider, cell-cases, with-elements-at, with-elements-wider, with-element-other, with-element-wider}
+use Rattle.rules.specs.Sound.{vector-block, value-named}
+use Rattle.rules.proofs.Good.{element-at, apart, used-slot}
+use Rattle.rules.proofs.Keeping.{value-wider, Unlisted, with-cell-other, with-cell-capacity, with-cell-used, with-cell-wider, cell-cases, with-elements-at, with-elements-wider, with-element-other, with-element-wider}
 use Rattle.rules.proofs.Allocate.{Within, inside, over, Took, took-wider}
 
 -- no cell's vector block meets this one but where it is the same
@@ -72,10 +71,6 @@ grows-refl from h =
       within = λ lent end l w. w;
     }
 
-not-false : (b : Bool) → not b ≡ true → b ≡ false
-not-false true e = absurd (true≢false (sym e))
-not-false false e = refl
-
 pub grows-trans : {m n : ℕ} {h h' h'' : Heap} → Grows m h h' → Grows n h' h'' → m ≤ n → Grows m h h''
 grows-trans {m} {n} {h} {h'} {h''} a b l =
     record {
@@ -93,7 +88,7 @@ grows-trans {m} {n} {h} {h'} {h''} a b l =
       new =
           every-append (λ (e : Entry). not (in-use h (e .slot))) (a .entries) (b .entries) (a .new)
           (every-weaker (λ (e : Entry). not (in-use h' (e .slot))) (λ (e : Entry). not (in-use h (e .slot)))
-          (λ e q. ap not (unused-before a (e .slot) (not-false (in-use h' (e .slot)) q))) (b .entries) (b .new));
+          (λ e q. ap not (unused-before a (e .slot) (not-true (in-use h' (e .slot)) q))) (b .entries) (b .new));
       clear = λ x s c. b .clear x (omega (arith, a .room)) (a .clear x s c);
       count = omega (arith, a .count, b .count);
       within = λ lent end s w. b .within lent end s (a .within lent end s w);

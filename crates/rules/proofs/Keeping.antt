@@ -1,28 +1,28 @@
 -- Each single change of a heap keeps it good: a cell, a text, a block of elements, an element, an entry. What each asks is
 -- what a put or a store can show. Document 01, "each accepted call keeps it so". Assumes nothing.
 use mathlib.Core.Path.{_≡_, refl, sym, ap, _∙_, subst}
-use mathlib.Core.Bool.{Bool, true, false, not}
+use mathlib.Core.Bool.{true, not}
 use mathlib.Core.List.{List, [], _∷_, _++_, append-nil}
 use mathlib.Core.Logic.{⊎-elim}
-use Prim.Native.Nat.{ℕ, zero, suc, _+_, _-_, _*_, _/_, _%_, _≤_, _<_}
+use Prim.Native.Nat.{ℕ, _+_, _-_, _/_, _≤_, _<_}
 use native.Mathlib.Omega.{arith}
 use native.Mathlib.Decide.{decLt, ℕ-discrete}
-use borrow.Author.Tests.{ltb-true, leb-true, eqb-true, lt-ltb, le-leb, eq-eqb, ne-eqb, not-true}
+use borrow.Author.Tests.{leb-true, eqb-true, le-leb, eq-eqb}
 use lib.Dec.{eqb, leb, ltb}
-use lib.ListN.{length, getD, set, take, drop, replicate, length-append, length-set, List·getD-append, List·getD-eq-default}
+use lib.ListN.{length, getD, take, drop, length-append, length-set, List·getD-append}
 use lib.Seq.{getD-set-same, getD-set-other, getD-append-add, getD-append-seam, set-out}
-use Rattle.laws.specs.Basics.{choose, both, either, every, same, basics}
-use Rattle.laws.proofs.Tests.{true≢false, both-left, both-right, both-true, either-cases, either-left, either-right}
+use Rattle.laws.specs.Basics.{both, every, same}
+use Rattle.laws.proofs.Tests.{both-left, both-right, both-true, either-cases, either-left, either-right}
 use Rattle.laws.proofs.Pointwise.{every-at, part-append}
 use Rattle.rules.specs.Numbers.{bits32}
-use Rattle.rules.specs.Map.{state-of, is-allocated, map-rules}
-use Rattle.rules.specs.Cells.{Scalar, undefined, Value, slot, scalar, Block, block, Cell, plain, pair, symbol, string, vector, is-symbol, same-block}
+use Rattle.rules.specs.Map.{state-of, is-allocated}
+use Rattle.rules.specs.Cells.{undefined, Value, slot, scalar, Block, Cell, plain, pair, symbol, string, vector, is-symbol, same-block}
 use Rattle.rules.specs.Heap.{Heap, Entry, capacity, cell-at, in-use, text-of, name-at, with-cell, with-element, with-bytes, with-elements, with-entry, heap-rules}
 use Rattle.rules.specs.Layout.{entry-at}
 use Rattle.rules.specs.Sound.{value-allowed, cell-allowed, value-named, text-block, vector-block, lies-in, same-or-disjoint, entry-sound, entries-differ, sound-rules}
 use Rattle.rules.specs.Calls.{cell-in-use, call-rules}
 use Rattle.rules.proofs.Growth.{Reached}
-use Rattle.rules.proofs.Good.{element-at, apart, Cell-good, Good, Used-slot, used-slot, slot-used}
+use Rattle.rules.proofs.Good.{element-at, apart, Cell-good, Good, used-slot}
 
 -- ---- blocks
 

@@ -13,5 +13,6 @@ pub mod Allocate
 pub mod Grows
 pub mod PutCells
 pub mod PutGood
+pub mod GoodSound
 pub mod PutSound
 pub mod StoreSound

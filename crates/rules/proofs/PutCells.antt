@@ -2,28 +2,28 @@
 -- as it was. Document 01, "Slots and growth". Assumes nothing.
 use mathlib.Core.Path.{_≡_, refl, sym, ap, _∙_, subst}
 use mathlib.Core.Bool.{Bool, true, false, not}
-use mathlib.Core.List.{List, [], _∷_, _++_, append-nil}
+use mathlib.Core.List.{List, [], _∷_, _++_}
 use mathlib.Core.Option.{Option, none, some}
-use Prim.Native.Nat.{ℕ, zero, suc, _+_, _-_, _≤_, _<_}
+use Prim.Native.Nat.{ℕ, _+_, _≤_, _<_}
 use native.Mathlib.Omega.{arith}
-use native.Mathlib.Decide.{decLt, ℕ-discrete}
-use borrow.Author.Tests.{eq-eqb, ne-eqb, le-leb, lt-ltb, eqb-true}
-use lib.Dec.{eqb, leb, ltb}
+use native.Mathlib.Decide.{ℕ-discrete}
+use borrow.Author.Tests.{eq-eqb, ne-eqb, le-leb, lt-ltb}
+use lib.Dec.{eqb}
 use lib.ListN.{length, getD, take, drop, length-append}
 use lib.Seq.{drop-append-seam, take-length}
-use Rattle.laws.specs.Basics.{choose, both, either, find, same, basics}
-use Rattle.laws.proofs.Tests.{true≢false, both-left, both-right, both-true, either-left, either-right, same-equal, same-refl}
-use Rattle.laws.proofs.Pointwise.{Found, find-some, find-none}
-use Rattle.rules.specs.Numbers.{bits32, most-string, most-name, most-vector}
-use Rattle.rules.specs.Utf8.{utf8, utf8-rules}
-use Rattle.rules.specs.Cells.{Scalar, undefined, Value, slot, scalar, Block, block, Cell, plain, pair, symbol, string, vector, is-symbol}
-use Rattle.rules.specs.Heap.{Heap, Entry, Given, capacity, cell-at, in-use, shown, text-of, name-at, block-after, with-cell, with-bytes, with-entry, alloc, found, heap-rules}
+use Rattle.laws.specs.Basics.{choose, both, same}
+use Rattle.laws.proofs.Tests.{true≢false, both-left, both-true, either-left, either-right}
+use Rattle.laws.proofs.Pointwise.{find-some, find-none}
+use Rattle.rules.specs.Numbers.{bits32, most-string, most-name}
+use Rattle.rules.specs.Utf8.{utf8}
+use Rattle.rules.specs.Cells.{Scalar, Value, slot, scalar, Block, block, Cell, plain, pair, symbol, string, vector, is-symbol}
+use Rattle.rules.specs.Heap.{Heap, Entry, Given, cell-at, in-use, shown, text-of, name-at, block-after, with-bytes, with-entry, alloc, found, heap-rules}
 use Rattle.rules.specs.Layout.{entry-at}
 use Rattle.rules.specs.Sound.{scalar-allowed, value-allowed, value-named, cell-allowed, text-block, vector-block, lies-in, entry-sound, entries-differ, sound-rules}
 use Rattle.rules.specs.Calls.{cell-in-use, call-rules}
-use Rattle.rules.specs.Put.{Put, Making, Label, making, put-as, new-cell, in-slot, slot-in, put-string, make-symbol, put-symbol, put-rules}
-use Rattle.rules.proofs.Good.{element-at, apart, Cell-good, Good, used-slot}
-use Rattle.rules.proofs.Keeping.{lies-below, apart-refl, apart-sym, apart-after, apart-empty, Wider, cell-kept, name-kept, Unlisted, with-cell-at, with-cell-used, with-cell-good, with-bytes-good, with-entry-good}
+use Rattle.rules.specs.Put.{Put, Making, Label, making, put-as, new-cell, in-slot, slot-in, put-string, make-symbol, put-symbol}
+use Rattle.rules.proofs.Good.{apart, Cell-good, Good, used-slot}
+use Rattle.rules.proofs.Keeping.{lies-below, apart-sym, apart-after, apart-empty, Wider, cell-kept, name-kept, Unlisted, with-cell-at, with-cell-used, with-cell-good, with-bytes-good, with-entry-good}
 use Rattle.rules.proofs.Allocate.{Took, took, took-wider}
 use Rattle.rules.proofs.Grows.{Clear, Grows, unused-before, grows-refl, grows-trans, grows-took, grows-bytes, grows-cell, grows-entry}
 

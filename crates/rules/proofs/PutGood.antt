@@ -1,35 +1,34 @@
 -- A put keeps a heap good, and leaves what was there as it was, by induction over the tree. Document 01: "each accepted
 -- call keeps it so". Assumes nothing.
-use mathlib.Core.Path.{_≡_, refl, sym, ap, _∙_, subst}
+use mathlib.Core.Path.{_≡_, refl, sym, ap, _∙_}
 use mathlib.Core.Bool.{Bool, true, false, not}
 use mathlib.Core.List.{List, [], _∷_, _++_, append-assoc, append-nil}
 use mathlib.Core.Option.{Option, none, some}
-use mathlib.Core.Logic.{⊎-elim}
-use Prim.Native.Nat.{ℕ, zero, suc, _+_, _-_, _≤_, _<_}
+use Prim.Native.Nat.{ℕ, suc, _+_, _-_, _≤_, _<_}
 use native.Mathlib.Omega.{arith}
-use native.Mathlib.Decide.{decLt, ℕ-discrete}
-use borrow.Author.Tests.{eq-eqb, ne-eqb, eqb-true, leb-true, ltb-true, le-leb, not-false}
+use native.Mathlib.Decide.{ℕ-discrete}
+use borrow.Author.Tests.{eq-eqb, ne-eqb, leb-true, ltb-true, le-leb, not-false}
 use lib.Dec.{eqb, leb, ltb}
 use lib.Seq.{ext-getD}
 use lib.ListN.{length, getD, replicate, length-append, length-replicate, getD-replicate}
-use Rattle.laws.specs.Basics.{choose, both, either, every, find, member, basics}
-use Rattle.laws.proofs.Tests.{true≢false, both-left, both-right, both-true, either-cases, every-front, every-back}
+use Rattle.laws.specs.Basics.{choose, either, every, find, member, basics}
+use Rattle.laws.proofs.Tests.{true≢false, both-left, both-right, every-front, every-back}
 use Rattle.laws.proofs.Pointwise.{every-same, getD-part, length-part}
 use Rattle.rules.specs.Numbers.{bits32, most-string, most-name, most-vector}
-use Rattle.rules.specs.Utf8.{utf8, utf8-rules}
+use Rattle.rules.specs.Utf8.{utf8}
 use Rattle.rules.specs.Map.{state-of, Free}
-use Rattle.rules.specs.Cells.{Scalar, undefined, nil, eof, void, bool, char, number, Value, slot, scalar, Block, block, Cell, plain, symbol, string}
+use Rattle.rules.specs.Cells.{Scalar, undefined, nil, eof, void, bool, char, number, slot, scalar, Block, block, Cell, plain, symbol, string}
 use Rattle.rules.specs.Nodes.{Atom, Node, node-fits, scalar-fits, text-fits, bytes, nodes-rules}
 use Rattle.rules.specs.Datum.{Datum, Data, end, more, how-many, nodes, all-nodes, node-within, refers-early, early-reference, datum-fits, datum-rules}
-use Rattle.rules.specs.Heap.{Heap, Entry, Given, capacity, cell-at, in-use, shown, part-of, text-of, elements-of, name-at, block-after, with-cell, with-element, with-elements, alloc, heap-rules}
+use Rattle.rules.specs.Heap.{Heap, Entry, Given, cell-at, in-use, shown, part-of, text-of, elements-of, name-at, block-after, alloc}
 use Rattle.rules.specs.Sound.{scalar-allowed, value-allowed, value-named, text-block, vector-block, lies-in, sound-rules}
 use Rattle.rules.specs.Calls.{call-rules}
-use Rattle.rules.specs.Put.{Put, Making, Label, making, put-as, new-cell, in-slot, slot-in, with-label, slot-of, put-string, put-symbol, begin-label, labelled, end-label, with-block, store-at, put-atom, put, put-all, put-datum, put-rules}
-use Rattle.rules.proofs.Good.{element-at, apart, Cell-good, Good, used-slot, not-used}
-use Rattle.rules.proofs.Keeping.{text-kept, name-kept, lies-below, lies-more, apart-sym, apart-empty, Unlisted, with-cell-used, with-cell-good, with-elements-good, with-elements-new, with-element-good}
+use Rattle.rules.specs.Put.{Put, Making, Label, making, new-cell, in-slot, slot-in, with-label, slot-of, put-string, put-symbol, labelled, end-label, with-block, store-at, put-atom, put, put-all, put-datum, put-rules}
+use Rattle.rules.proofs.Good.{element-at, Good, not-used}
+use Rattle.rules.proofs.Keeping.{text-kept, name-kept, lies-below, lies-more, apart-sym, apart-empty, with-cell-used, with-cell-good, with-elements-good, with-elements-new, with-element-good}
 use Rattle.rules.proofs.Allocate.{Took, took}
-use Rattle.rules.proofs.Grows.{Clear, Grows, unlisted-kept, unused-before, grows-refl, grows-trans, grows-less, grows-took, grows-elements, grows-element, grows-cell}
-use Rattle.rules.proofs.PutCells.{Value-good, Cell-fits, clear-empty, lies-none, pair-fits, shown-fits, shown-clear, Behind, nothing, after, behind, behind-apart, behind-lies, Done, In-slot, Slot-done, New, Atom-done, new-done, slot-good, new-cell-done, in-slot-done, took-unlisted, put-string-done, grows-wider, put-symbol-done}
+use Rattle.rules.proofs.Grows.{Clear, Grows, unlisted-kept, grows-refl, grows-trans, grows-less, grows-took, grows-elements, grows-element, grows-cell}
+use Rattle.rules.proofs.PutCells.{Cell-fits, clear-empty, lies-none, pair-fits, shown-fits, shown-clear, Behind, nothing, after, behind, behind-apart, behind-lies, Done, In-slot, Atom-done, new-done, new-cell-done, in-slot-done, took-unlisted, put-string-done, grows-wider, put-symbol-done}
 
 -- ---- labels
 
