@@ -156,7 +156,7 @@ pub record Took (h : Heap) (t : Given) : Type 0 where
   pub count : used-count (t .heap) ≡ used-count h + 1
   pub within : (lent end : ℕ) → lent ≤ 4096 → Within lent end h → Within lent end (t .heap)
 
-abbrev taken : Heap → ℕ → List ℕ → Heap
+abbrev pub taken : Heap → ℕ → List ℕ → Heap
 taken h s rest =
     record {
       chunk = h .chunk;
@@ -277,7 +277,7 @@ module _ (h : Heap) (g : Good h) (s : ℕ) (rest : List ℕ) (is : h .free ≡ s
       }
 
 -- a pop of a list with a slot on it
-abbrev pop-by : Heap → List ℕ → Given
+abbrev pub pop-by : Heap → List ℕ → Given
 pop-by h l = elim l [ [] ↦ record { slot = 0; heap = h } | s ∷ rest ↦ record { slot = s; heap = taken h s rest } ]
 
 pop-is : (h : Heap) (s : ℕ) (rest : List ℕ) → h .free ≡ s ∷ rest → pop h ≡ record { slot = s; heap = taken h s rest }
@@ -289,7 +289,7 @@ took-pop h g s rest e = subst (Took h) (sym (pop-is h s rest e)) (took-next h g 
 
 -- ---- allocating
 
-abbrev prepared-by : Heap → List ℕ → Heap
+abbrev pub prepared-by : Heap → List ℕ → Heap
 prepared-by h l = elim l [ [] ↦ grow h | s ∷ rest ↦ h ]
 
 -- growing, then taking: nothing that was there changed

@@ -16,3 +16,4 @@ pub mod PutGood
 pub mod GoodSound
 pub mod PutSound
 pub mod StoreSound
+pub mod Monotone
