@@ -3,3 +3,4 @@ pub mod Bytes
 pub mod Lists
 pub mod Below
 pub mod Sums
+pub mod Sorting
