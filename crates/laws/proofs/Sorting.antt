@@ -48,6 +48,17 @@ stands n (x ∷ xs) h =
           record { at = suc (s .at); inside = omega (arith, s .inside); there = s .there }
     ]
 
+-- what stands at two places is counted twice
+pub counted-twice : (xs : List ℕ) (i j : ℕ) → i < j → j < length xs → getD xs i 0 ≡ getD xs j 0 → 2 ≤ count (getD xs j 0) xs
+unfolding basics
+counted-twice [] i j h l e = absurd (not-suc-le-zero l)
+counted-twice (x ∷ xs) i zero h l e = absurd (not-suc-le-zero h)
+counted-twice (x ∷ xs) zero (suc j) h l e =
+    let o : once (getD xs j 0) x ≡ 1 = rw (eq-eqb (getD xs j 0) x (sym e)) in
+    omega (arith, o, counted xs j (le-of-suc-le-suc l))
+counted-twice (x ∷ xs) (suc i) (suc j) h l e =
+    omega (arith, counted-twice xs i j (le-of-suc-le-suc h) (le-of-suc-le-suc l) e)
+
 -- the counts after a store
 count-set : (n : ℕ) (xs : List ℕ) (i v : ℕ) → i < length xs → count n (set xs i v) + once n (getD xs i 0) ≡ count n xs + once n v
 unfolding basics

@@ -68,7 +68,7 @@ pub data Trichotomy (x y : ℕ) : Type 0 where
   equal : x ≡ y → Trichotomy x y
   more : y < x → Trichotomy x y
 
-trichotomy : (x y : ℕ) → Trichotomy x y
+pub trichotomy : (x y : ℕ) → Trichotomy x y
 trichotomy x y = by (ltb x y) (ltb y x) refl refl
   where
     by : (b c : Bool) → ltb x y ≡ b → ltb y x ≡ c → Trichotomy x y
