@@ -107,11 +107,12 @@ pub fn pop(words: &mut [u64], map: &mut [u8]) -> usize
     requires { ⌜ CanPop (now words) (now map) ⌝ }
     ensures { λ r. ⌜ Popped (now (words .entry)) (now (map .entry)) r (now (words .exit)) (now (map .exit)) ⌝ }
 {
-    let count = words[FREE_COUNT] as usize - 1;
-    let at = place(count);
+    let count = words[FREE_COUNT] as usize;
+    let last = count - 1;
+    let at = place(last);
     let slot = words[at] as usize;
     words[at] = 0;
-    words[FREE_COUNT] = count as u64;
+    words[FREE_COUNT] = last as u64;
     leaf_map::set(map, slot, leaf_map::ALLOCATED);
     slot
 }
