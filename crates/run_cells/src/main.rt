@@ -2,7 +2,6 @@
 // an index or a length, a kind, and two words of 16 digits. The answer is a line: what the call tells, then all words,
 // bytes and elements. What the cases are, and their answers, is made by tools/leaf_cases.py.
 ghost use mathlib.Core.Path.{_≡_};
-ghost use Prim.Native.Nat.{_+_, _≤_};
 ghost use lib.ListN.{length};
 
 const WIDTH: usize = 41;
