@@ -32,3 +32,8 @@ unfolding basics
 falling-below a zero b h = refl
 falling-below a (suc n) b h =
     ap (every (λ s. ltb s b)) (falling a n) ∙ both-true (lt-ltb (a + n) b (omega arith)) (falling-below a n b (omega arith))
+
+pub rising-below : (a n b : ℕ) → a + n ≤ b → every (λ s. ltb s b) (rising a n) ≡ true
+unfolding basics
+rising-below a zero b h = refl
+rising-below a (suc n) b h = both-true (lt-ltb a b (omega arith)) (rising-below (suc a) n b (omega arith))

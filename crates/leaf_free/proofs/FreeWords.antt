@@ -134,7 +134,7 @@ more-slots h n =
       elements = h .elements;
     }
 
-same-cells : (n : ℕ) (l : List Cell) (i : ℕ) → getD (l ++ replicate n (plain undefined)) i (plain undefined) ≡ getD l i (plain undefined)
+pub same-cells : (n : ℕ) (l : List Cell) (i : ℕ) → getD (l ++ replicate n (plain undefined)) i (plain undefined) ≡ getD l i (plain undefined)
 same-cells zero [] i = refl
 same-cells (suc n) [] zero = refl
 same-cells (suc n) [] (suc i) = same-cells n [] i

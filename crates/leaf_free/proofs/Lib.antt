@@ -4,3 +4,4 @@ pub mod Written
 pub mod FreeWords
 pub mod FreeMap
 pub mod Allocating
+pub mod FreshWords
