@@ -73,6 +73,11 @@ fours chunk size f w =
     let e : size ≡ 4 * (w .chunks * q) = w .is ∙ ap (λ (n : ℕ). w .chunks * n) c ∙ mul-left-comm (w .chunks) 4 q in
     omega arith
 
+-- the lent map holds the heap's
+pub lent-map-length : (slots : ℕ) (h : Heap) → Growing slots h → length (filled (map-bytes slots) (h .map)) ≡ map-bytes slots
+unfolding map-bytes
+lent-map-length slots h g = filled-length ((slots + 3) / 4) (h .map) (omega (arith, g .map-size, g .within))
+
 -- ---- growth
 
 module _ (slots : ℕ) (h : Heap) (g : Growing slots h) where
@@ -208,17 +213,13 @@ module _ (slots : ℕ) (h : Heap) (g : Growing slots h) (t : Next h) where
   next-in-map : t .slot / 4 < length (h .map)
   next-in-map = omega (arith, g .map-size, next-below, capacity-fours slots h g)
 
-  pub map-length : length (filled (map-bytes slots) (h .map)) ≡ map-bytes slots
-  unfolding map-bytes
-  map-length = filled-length ((slots + 3) / 4) (h .map) (omega (arith, g .map-size, g .within))
-
   pub can-pop : CanPop (words-of slots h) (filled (map-bytes slots) (h .map))
   unfolding map-bytes
   can-pop =
       record {
         some = omega (arith, count-word slots h, rest-size);
         row = omega (arith, count-word slots h, rest-size, listed, words-length slots h);
-        state = omega (arith, top-word slots h (t .slot) (t .rest) (t .is) listed, map-length, next-below, g .within);
+        state = omega (arith, top-word slots h (t .slot) (t .rest) (t .is) listed, lent-map-length slots h g, next-below, g .within);
       }
 
   pub pop-given : (ws map : List ℕ) (slot : ℕ) (ws' map' : List ℕ) → ws ≡ words-of slots h → map ≡ filled (map-bytes slots) (h .map) → Popped ws map slot ws' map' → Given-by slots (pop h) slot ws' map'
