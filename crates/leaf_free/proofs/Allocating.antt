@@ -88,7 +88,7 @@ module _ (slots : ℕ) (h : Heap) (g : Growing slots h) where
   pub goal-above : capacity h < goal h
   goal-above = rises (h .chunk) (capacity h) positive (g .some) (g .whole)
 
-  capacity-grown : capacity (grow h) ≡ goal h
+  pub capacity-grown : capacity (grow h) ≡ goal h
   unfolding grow
   capacity-grown =
       length-append (h .cells) _
@@ -117,7 +117,7 @@ module _ (slots : ℕ) (h : Heap) (g : Growing slots h) where
     abbrev new : ℕ
     new = goal h - capacity h
 
-    grown-free : grow h .free ≡ reverse (rising (capacity h) new)
+    pub grown-free : grow h .free ≡ reverse (rising (capacity h) new)
     unfolding grow
     grown-free = ap (λ (l : List ℕ). reverse (rising (capacity h) new) ++ l) none ∙ append-nil (reverse (rising (capacity h) new))
 
@@ -210,7 +210,7 @@ module _ (slots : ℕ) (h : Heap) (g : Growing slots h) (t : Next h) where
   rest-size : length (h .free) ≡ suc (length (t .rest))
   rest-size = ap length (t .is)
 
-  next-in-map : t .slot / 4 < length (h .map)
+  pub next-in-map : t .slot / 4 < length (h .map)
   next-in-map = omega (arith, g .map-size, next-below, capacity-fours slots h g)
 
   pub can-pop : CanPop (words-of slots h) (filled (map-bytes slots) (h .map))

@@ -5,3 +5,4 @@ pub mod FreeWords
 pub mod FreeMap
 pub mod Allocating
 pub mod FreshWords
+pub mod TakenSlot
