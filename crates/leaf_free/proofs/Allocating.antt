@@ -88,9 +88,9 @@ module _ (slots : ℕ) (h : Heap) (g : Growing slots h) where
   pub goal-above : capacity h < goal h
   goal-above = rises (h .chunk) (capacity h) positive (g .some) (g .whole)
 
-  pub capacity-grown : capacity (grow h) ≡ goal h
+  pub grown-size : capacity (grow h) ≡ goal h
   unfolding grow
-  capacity-grown =
+  grown-size =
       length-append (h .cells) _
       ∙ (let e : capacity h + (goal h - capacity h) ≡ goal h = omega (arith, goal-above) in
       ap (λ (n : ℕ). capacity h + n) (length-replicate (goal h - capacity h) (plain undefined)) ∙ e)
@@ -132,17 +132,17 @@ module _ (slots : ℕ) (h : Heap) (g : Growing slots h) where
           chunk-least = g .chunk-least;
           chunk-fours = g .chunk-fours;
           chunk-within = g .chunk-within;
-          whole = subst (λ (n : ℕ). Whole (h .chunk) n) (sym capacity-grown) (grown-whole (h .chunk) (capacity h));
-          some = omega (arith, capacity-grown, goal-above);
-          within = omega (arith, capacity-grown);
+          whole = subst (λ (n : ℕ). Whole (h .chunk) n) (sym grown-size) (grown-whole (h .chunk) (capacity h));
+          some = omega (arith, grown-size, goal-above);
+          within = omega (arith, grown-size);
           map-size =
               length-append (h .map) (zeros (new / 4))
               ∙ (let e : length (h .map) + new / 4 ≡ goal h / 4 = omega (arith, g .map-size, goal-above, new-fours, capacity-fours) in
-              ap (λ (n : ℕ). length (h .map) + n) (length-zeros (new / 4)) ∙ e ∙ ap (λ (n : ℕ). n / 4) (sym capacity-grown));
-          free-size = omega (arith, grown-count, capacity-grown);
+              ap (λ (n : ℕ). length (h .map) + n) (length-zeros (new / 4)) ∙ e ∙ ap (λ (n : ℕ). n / 4) (sym grown-size));
+          free-size = omega (arith, grown-count, grown-size);
           free-below =
               ap (every (λ s. ltb s (capacity (grow h)))) grown-free
-              ∙ falling-below (capacity h) new (capacity (grow h)) (omega (arith, capacity-grown, goal-above));
+              ∙ falling-below (capacity h) new (capacity (grow h)) (omega (arith, grown-size, goal-above));
         }
 
     -- the highest new slot is the next
@@ -343,7 +343,7 @@ module _ (slots : ℕ) (h : Heap) (g : Growing slots h) (room : Room slots h) wh
   -- growing uses no slot
   grow-used : h .free ≡ [] → used-count (grow h) ≡ used-count h
   grow-used none =
-      omega (arith, capacity-grown slots h g, grown-count slots h g none (room none), goal-above slots h g, ap length none)
+      omega (arith, grown-size slots h g, grown-count slots h g none (room none), goal-above slots h g, ap length none)
 
   pub alloc-used : used-count (alloc h .heap) ≡ used-count h + 1
   alloc-used =
@@ -360,7 +360,7 @@ module _ (slots : ℕ) (h : Heap) (g : Growing slots h) (room : Room slots h) wh
   unfolding grow
   grow-available none =
       let same : fitting most-growths (h .chunk) slots (capacity (grow h)) ≡ fitting most-growths (h .chunk) slots (capacity h) =
-      ap (fitting most-growths (h .chunk) slots) (capacity-grown slots h g)
+      ap (fitting most-growths (h .chunk) slots) (grown-size slots h g)
       ∙ fitting-grown (h .chunk) slots (capacity h) (g .chunk-least) (g .slots-small) (g .some) (g .whole) (room none)
       in
       let least : capacity (grow h) ≤ fitting most-growths (h .chunk) slots (capacity (grow h)) =
@@ -370,7 +370,7 @@ module _ (slots : ℕ) (h : Heap) (g : Growing slots h) (room : Room slots h) wh
       omega (
         arith,
         grown-count slots h g none (room none),
-        capacity-grown slots h g,
+        grown-size slots h g,
         goal-above slots h g,
         ap length none,
       )

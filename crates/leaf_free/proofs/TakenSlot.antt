@@ -1,23 +1,24 @@
 -- What allocating leaves as it was, and that it keeps "the free list holds each Free slot once". Assumes nothing.
 use mathlib.Core.Path.{_≡_, refl, sym, ap, _∙_, subst}
-use mathlib.Core.Bool.{Bool, true, false}
+use mathlib.Core.Bool.{Bool, true, false, not}
 use mathlib.Core.List.{List, [], _∷_, _++_, reverse}
 use Prim.Native.Nat.{ℕ, zero, suc, _+_, _-_, _*_, _/_, _%_, _≤_, _<_}
 use native.Mathlib.Omega.{arith}
 use native.Mathlib.Decide.{ℕ-discrete, decLt}
 use borrow.Author.Tests.{eqb-true, eq-eqb, ne-eqb}
 use lib.Dec.{eqb, ltb, lit<}
-use lib.ListN.{length, getD}
-use Rattle.laws.specs.Basics.{choose, both, every, every-below, count, rising, zeros, basics}
-use Rattle.laws.proofs.Tests.{both-left, both-right, both-true, below-all, all-below}
+use lib.ListN.{length, getD, List·getD-eq-default}
+use Rattle.laws.specs.Basics.{choose, both, either, every, every-below, count, rising, zeros, basics}
+use Rattle.laws.proofs.Tests.{both-left, both-right, both-true, either-right, below-all, all-below}
 use Rattle.laws.proofs.Zeros.{falling}
-use Rattle.rules.specs.Map.{state-in, state-of, set-state, Allocated, Free, map-rules}
+use Rattle.rules.specs.Map.{state-in, state-of, set-state, is-allocated, Allocated, Free, map-rules}
 use Rattle.rules.specs.Cells.{Cell, plain, undefined}
-use Rattle.rules.specs.Heap.{Heap, Entry, Given, capacity, cell-at, grow, pop, alloc}
-use Rattle.rules.specs.Sound.{is-free, free-once}
+use Rattle.rules.specs.Heap.{Heap, Entry, Given, capacity, cell-at, in-use, reaches, most-growths, grow, pop, alloc}
+use Rattle.rules.specs.Sound.{is-free, is-undefined, free-once, free-undefined, states-settled, capacity-grown}
 use Rattle.rules.proofs.TwoBits.{state-past, state-same, state-other}
+use Rattle.leaf_free.proofs.Growth.{reaches-grown}
 use Rattle.leaf_free.proofs.FreeWords.{goal, same-cells}
-use Rattle.leaf_free.proofs.Allocating.{Growing, Room, Next, Filled, next, empty, free-or-not, taken, pop-is, alloc-next, alloc-empty, alloc-growing, grow-growing, grow-next, goal-above, capacity-grown, grown-free, grown-above, next-below, next-in-map}
+use Rattle.leaf_free.proofs.Allocating.{Growing, Room, Next, Filled, next, empty, free-or-not, taken, pop-is, alloc-next, alloc-empty, alloc-growing, grow-growing, grow-next, goal-above, grown-size, grown-free, grown-above, next-below, next-in-map}
 
 -- ---- what a slot taken leaves
 
@@ -73,7 +74,7 @@ module _ (slots : ℕ) (h : Heap) (g : Growing slots h) where
         table-kept = k .table-kept;
         bytes-kept = k .bytes-kept;
         elements-kept = k .elements-kept;
-        capacity-kept = omega (arith, k .capacity-kept, capacity-grown slots h g, goal-above slots h g);
+        capacity-kept = omega (arith, k .capacity-kept, grown-size slots h g, goal-above slots h g);
         cells-kept = λ i. k .cells-kept i ∙ grow-cells h i;
         slot-below = k .slot-below;
         slot-allocated = k .slot-allocated;
@@ -208,7 +209,7 @@ module _ (slots : ℕ) (h : Heap) (g : Growing slots h) (o : Once h) where
             ∙ sym (free-by-state h (grow h) s (grow-states h s))
         | no high ↦
             count-falling-in (capacity h) (goal h - capacity h) s (omega arith)
-            (omega (arith, capacity-grown slots h g, goal-above slots h g))
+            (omega (arith, grown-size slots h g, goal-above slots h g))
             ∙ sym (free-past (grow h) s (grow-states h s ∙ state-past (h .map) s (omega (arith, g .map-size))))
       ]
 
@@ -223,3 +224,102 @@ alloc-free-once slots h g room e =
           (pop-once slots (grow h) (grow-growing slots h g none (room none)) (grow-once slots h g (once-told h e) none (room none))
           (grow-next slots h g none (room none)))
     ])
+
+-- the slot was Free, and so not in use
+pub alloc-was-free : (slots : ℕ) (h : Heap) → Growing slots h → Room slots h → free-once h ≡ true → state-of (h .map) (alloc h .slot) ≡ Free
+alloc-was-free slots h g room e =
+    elim (free-or-not h) [
+      | next t ↦
+          ap (λ (x : Given). state-of (h .map) (x .slot)) (alloc-next h t ∙ pop-is h t) ∙ next-free slots h g (once-told h e) t
+      | empty none ↦
+          let t = grow-next slots h g none (room none) in
+          ap (λ (x : Given). state-of (h .map) (x .slot)) (alloc-empty h none ∙ pop-is (grow h) t)
+          ∙ state-past (h .map) (t .slot) (omega (arith, g .map-size, grown-above slots h g none (room none)))
+    ]
+
+both-none : (b : Bool) → both b false ≡ false
+both-none true = refl
+both-none false = refl
+
+pub alloc-unused : (slots : ℕ) (h : Heap) → Growing slots h → Room slots h → free-once h ≡ true → in-use h (alloc h .slot) ≡ false
+unfolding is-allocated
+alloc-unused slots h g room e =
+    ap (λ (n : ℕ). both (ltb (alloc h .slot) (capacity h)) (eqb n Allocated)) (alloc-was-free slots h g room e)
+    ∙ both-none (ltb (alloc h .slot) (capacity h))
+
+-- ---- the other clauses on states, kept by allocating
+
+module _ (slots : ℕ) (h : Heap) (g : Growing slots h) (room : Room slots h) where
+  abbrev after : Heap
+  after = alloc h .heap
+
+  kept : TakenFrom h (alloc h)
+  kept = alloc-taken slots h g room
+
+  -- a state past the old capacity is Free
+  free-above : (s : ℕ) → capacity h ≤ s → state-of (h .map) s ≡ Free
+  free-above s high = state-past (h .map) s (omega (arith, g .map-size))
+
+  pub alloc-states : states-settled h ≡ true → states-settled after ≡ true
+  unfolding states-settled is-free is-allocated
+  alloc-states e =
+      all-below (λ s. either (is-free after s) (is-allocated (after .map) s)) (capacity after)
+      (λ s small.
+      elim (ℕ-discrete s (alloc h .slot)) [
+        | yes here ↦
+            either-right (is-free after s)
+            (eq-eqb (state-of (after .map) s) Allocated (ap (state-of (after .map)) here ∙ kept .slot-allocated))
+        | no d ↦
+            ap (λ (n : ℕ). either (eqb n Free) (eqb n Allocated)) (kept .others-kept s d)
+            ∙ elim (decLt s (capacity h)) [
+              | yes low ↦ below-all (λ s. either (is-free h s) (is-allocated (h .map) s)) (capacity h) e s low
+              | no high ↦ ap (λ (n : ℕ). either (eqb n Free) (eqb n Allocated)) (free-above s (omega arith))
+            ]
+      ])
+
+  pub alloc-undefined : free-undefined h ≡ true → free-undefined after ≡ true
+  unfolding free-undefined is-free is-undefined
+  alloc-undefined e =
+      all-below (λ s. either (not (is-free after s)) (is-undefined (cell-at after s))) (capacity after)
+      (λ s small.
+      elim (ℕ-discrete s (alloc h .slot)) [
+        | yes here ↦
+            ap (λ (n : ℕ). either (not (eqb n Free)) (is-undefined (cell-at after s)))
+            (ap (state-of (after .map)) here ∙ kept .slot-allocated)
+        | no d ↦
+            (λ i. either (not (eqb (kept .others-kept s d i) Free)) (is-undefined (kept .cells-kept s i)))
+            ∙ elim (decLt s (capacity h)) [
+              | yes low ↦ below-all (λ s. either (not (is-free h s)) (is-undefined (cell-at h s))) (capacity h) e s low
+              | no high ↦
+                  either-right (not (eqb (state-of (h .map) s) Free))
+                  (ap is-undefined (List·getD-eq-default (h .cells) (plain undefined) (omega arith)))
+            ]
+      ])
+
+  -- the slot given holds Undefined
+  pub alloc-empty-cell : free-once h ≡ true → free-undefined h ≡ true → is-undefined (cell-at after (alloc h .slot)) ≡ true
+  unfolding free-undefined is-free is-undefined
+  alloc-empty-cell o e =
+      ap is-undefined (kept .cells-kept (alloc h .slot))
+      ∙ elim (decLt (alloc h .slot) (capacity h)) [
+        | yes low ↦
+            sym (ap (λ (n : ℕ). either (not (eqb n Free)) (is-undefined (cell-at h (alloc h .slot)))) (alloc-was-free slots h g room o))
+            ∙ below-all (λ s. either (not (is-free h s)) (is-undefined (cell-at h s))) (capacity h) e (alloc h .slot) low
+        | no high ↦ ap is-undefined (List·getD-eq-default (h .cells) (plain undefined) (omega arith))
+      ]
+
+  grow-capacity : h .free ≡ [] → capacity-grown h ≡ true → capacity-grown (grow h) ≡ true
+  unfolding capacity-grown grow
+  grow-capacity none e =
+      ap (λ (n : ℕ). reaches most-growths (h .chunk) n (h .chunk)) (grown-size slots h g)
+      ∙ reaches-grown (h .chunk) (capacity h) (g .chunk-least) (omega (arith, room none, g .slots-small)) e
+
+  pub alloc-capacity : capacity-grown h ≡ true → capacity-grown after ≡ true
+  unfolding capacity-grown
+  alloc-capacity e =
+      elim (free-or-not h) [
+        | next t ↦ ap (λ (x : Given). capacity-grown (x .heap)) (alloc-next h t ∙ pop-is h t) ∙ e
+        | empty none ↦
+            ap (λ (x : Given). capacity-grown (x .heap)) (alloc-empty h none ∙ pop-is (grow h) (grow-next slots h g none (room none)))
+            ∙ grow-capacity none e
+      ]
