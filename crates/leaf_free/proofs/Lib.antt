@@ -6,3 +6,4 @@ pub mod FreeMap
 pub mod Allocating
 pub mod FreshWords
 pub mod TakenSlot
+pub mod SoundGrowing
