@@ -1,29 +1,29 @@
 -- Allocating: a heap that can grow or has a free slot gives one by the code as by the rules, takes one slot of those that
 -- can still be taken, and stays such a heap. Document 01, "Slots and growth", and No. 16. Assumes nothing.
 use mathlib.Core.Path.{_≡_, refl, sym, ap, _∙_, subst}
-use mathlib.Core.Bool.{Bool, true, false}
+use mathlib.Core.Bool.{true}
 use mathlib.Core.List.{List, [], _∷_, _++_, reverse, append-nil}
-use Prim.Native.Nat.{ℕ, zero, suc, _+_, _-_, _*_, _/_, _%_, _≤_, _<_}
-use native.Mathlib.Nat.{mul-assoc, mul-left-comm, mul-comm}
+use Prim.Native.Nat.{ℕ, suc, _+_, _-_, _*_, _/_, _%_, _≤_, _<_}
+use native.Mathlib.Nat.{mul-left-comm}
 use native.Mathlib.Omega.{arith}
 use native.Mathlib.Decide.{decLe}
 use borrow.Author.Tests.{ltb-true, eqb-true}
 use lib.Dec.{eqb, ltb}
-use lib.ListN.{length, getD, set, replicate, length-append, length-reverse, length-replicate}
-use Rattle.laws.specs.Basics.{both, every, rising, zeros, basics}
-use Rattle.laws.proofs.Tests.{both-left, both-right, both-true}
+use lib.ListN.{length, length-append, length-reverse, length-replicate}
+use Rattle.laws.specs.Basics.{every, rising, zeros, basics}
+use Rattle.laws.proofs.Tests.{both-left, both-right}
 use Rattle.laws.proofs.Lists.{length-zeros, length-rising}
 use Rattle.laws.proofs.Zeros.{falling, falling-below}
 use Rattle.rules.specs.Map.{set-state, state-of, Allocated, Free}
-use Rattle.rules.specs.Cells.{Cell, plain, undefined}
-use Rattle.rules.specs.Heap.{Heap, Given, capacity, free-count, used-count, grown, fitting, most-growths, grow, pop, alloc, heap-rules}
+use Rattle.rules.specs.Cells.{plain, undefined}
+use Rattle.rules.specs.Heap.{Heap, Given, capacity, free-count, used-count, fitting, most-growths, grow, pop, alloc}
 use Rattle.rules.specs.Layout.{words-of, map-bytes, filled}
 use Rattle.rules.proofs.LentLaws.{words-length, filled-length}
 use Rattle.rules.proofs.TwoBits.{set-state-length, state-past}
-use Rattle.leaf_free.specs.FreeList.{chunk-of, capacity-of, count-of, goal-of, place, pushed, grown-words, popped, top, ready, CanGrow, CanPop, CanAlloc, Popped}
-use Rattle.leaf_free.proofs.Growth.{more, Whole, grown-whole, no-less, positive-chunks, rises, fitting-on, fitting-end, fitting-grown, fitting-least}
+use Rattle.leaf_free.specs.FreeList.{count-of, grown-words, popped, top, ready, CanGrow, CanPop, CanAlloc, Popped}
+use Rattle.leaf_free.proofs.Growth.{Whole, grown-whole, rises, fitting-end, fitting-grown, fitting-least}
 use Rattle.leaf_free.proofs.Steps.{ready-empty, ready-already}
-use Rattle.leaf_free.proofs.FreeWords.{with-free, goal, chunk-word, capacity-word, count-word, goal-word, grow-words, top-word, pop-words}
+use Rattle.leaf_free.proofs.FreeWords.{goal, chunk-word, capacity-word, count-word, goal-word, grow-words, top-word, pop-words}
 use Rattle.leaf_free.proofs.FreeMap.{filled-zeros, filled-state}
 
 -- a heap within the lent slots that growth came to, with a free list of slots below its capacity

@@ -2,7 +2,7 @@
 -- taken. Document 01, "Fresh: the first slot given is 0, then 1". Assumes nothing.
 use mathlib.Core.Path.{_≡_, refl, sym, ap, _∙_, subst}
 use mathlib.Core.List.{List, [], _∷_, _++_, append-assoc, append-nil}
-use Prim.Native.Nat.{ℕ, zero, suc, _+_, _-_, _*_, _/_, _%_, _≤_, _<_}
+use Prim.Native.Nat.{ℕ, zero, suc, _+_, _-_, _*_, _/_, _%_, _≤_}
 use native.Mathlib.Omega.{arith}
 use lib.ListN.{length, getD, set, replicate, length-replicate}
 use lib.Seq.{getD-set-other}
@@ -10,9 +10,9 @@ use Rattle.laws.specs.Basics.{rising, zeros, basics}
 use Rattle.laws.proofs.Lists.{length-zeros, getD-zeros, length-rising}
 use Rattle.laws.proofs.Zeros.{rising-last, rising-below}
 use Rattle.rules.specs.Cells.{Cell, plain, undefined}
-use Rattle.rules.specs.Heap.{Heap, capacity, fresh}
-use Rattle.rules.specs.Layout.{header-words, row-words, words-of, cell-words, scalar-words, entry-at, map-bytes, filled, layout-rules}
-use Rattle.leaf_free.specs.FreeList.{count-of, pushed, fallen, fresh-words, CanStart}
+use Rattle.rules.specs.Heap.{Heap, fresh}
+use Rattle.rules.specs.Layout.{header-words, words-of, cell-words, map-bytes, filled, layout-rules}
+use Rattle.leaf_free.specs.FreeList.{fallen, fresh-words, CanStart}
 use Rattle.leaf_free.proofs.Growth.{Whole, one-whole}
 use Rattle.leaf_free.proofs.Written.{Written, heads-of, rows-of, written-again, head-stored, rows-renamed}
 use Rattle.leaf_free.proofs.FreeWords.{with-free, push-words, same-cells}

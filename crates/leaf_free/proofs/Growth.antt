@@ -3,15 +3,15 @@
 use mathlib.Core.Path.{_≡_, refl, sym, ap, _∙_, subst}
 use mathlib.Core.Bool.{Bool, true, false}
 use mathlib.Core.Logic.{⊎-elim}
-use Prim.Native.Nat.{ℕ, zero, suc, _+_, _-_, _*_, _/_, _%_, _≤_, _<_}
-use native.Mathlib.Nat.{le-trans, mul-lt-mul-of-pos-right, mul-div-cancel, mul-le-mul, mul-le-mul-right, div-le-self, mul-assoc, mul-left-comm}
+use Prim.Native.Nat.{ℕ, zero, suc, _+_, _-_, _*_, _/_, _≤_, _<_}
+use native.Mathlib.Nat.{le-trans, mul-lt-mul-of-pos-right, mul-div-cancel, mul-le-mul, mul-le-mul-right, div-le-self}
 use native.Mathlib.Omega.{arith}
 use native.Mathlib.Decide.{decLe, decLt}
 use borrow.Author.Tests.{le-leb, lt-leb, eqb-true, eq-eqb, ne-eqb}
-use lib.Dec.{eqb, leb}
+use lib.Dec.{eqb}
 use Rattle.laws.specs.Basics.{either}
 use Rattle.laws.proofs.Tests.{either-cases, either-right}
-use Rattle.rules.specs.Heap.{grown, fitting, reaches, most-growths, heap-rules}
+use Rattle.rules.specs.Heap.{grown, fitting, reaches, most-growths}
 
 -- ---- one step
 

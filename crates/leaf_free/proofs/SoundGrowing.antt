@@ -1,21 +1,21 @@
 -- A sound heap is one from which slots can be taken. Document 01, "A heap is sound when". Assumes nothing.
-use mathlib.Core.Path.{_≡_, refl, sym, ap, _∙_, subst}
-use mathlib.Core.Bool.{Bool, true, false}
+use mathlib.Core.Path.{_≡_, sym, ap, _∙_, subst}
+use mathlib.Core.Bool.{true}
 use mathlib.Core.Logic.{⊎-elim}
-use mathlib.Core.List.{List, map, reverse}
-use Prim.Native.Nat.{ℕ, zero, suc, _+_, _-_, _*_, _/_, _%_, _≤_, _<_, min}
+use mathlib.Core.List.{map}
+use Prim.Native.Nat.{ℕ, zero, suc, _+_, _*_, _/_, _%_, _≤_, _<_}
 use native.Mathlib.Omega.{arith}
 use borrow.Author.Tests.{leb-true, eqb-true}
 use lib.Dec.{eqb, leb, ltb}
-use lib.ListN.{length, take, length-take, length-map, length-reverse}
+use lib.ListN.{length, length-map, length-reverse}
 use lib.Seq.{length-take-le}
-use Rattle.laws.specs.Basics.{both, either, between, every, rising}
+use Rattle.laws.specs.Basics.{both, between, every, rising}
 use Rattle.laws.proofs.Tests.{both-left, both-right, either-cases}
 use Rattle.laws.proofs.Lists.{length-rising}
 use Rattle.rules.specs.Numbers.{chunk-allowed, numbers}
-use Rattle.rules.specs.Heap.{Heap, capacity, grown, reaches, most-growths}
-use Rattle.rules.specs.Layout.{Lent, rooms-of, map-bytes, whole-rooms, header, heap-of, layout-rules}
-use Rattle.rules.specs.Sound.{Sound, setup-numbers, counts-within, capacity-grown, free-once, sound-rules}
+use Rattle.rules.specs.Heap.{capacity, grown, reaches, most-growths}
+use Rattle.rules.specs.Layout.{Lent, rooms-of, map-bytes, whole-rooms, header, heap-of}
+use Rattle.rules.specs.Sound.{Sound, setup-numbers, counts-within, capacity-grown, free-once}
 use Rattle.leaf_free.proofs.Growth.{Whole, one-whole, grown-whole, rises}
 use Rattle.leaf_free.proofs.Allocating.{Growing}
 

@@ -8,7 +8,7 @@ use borrow.Author.Tests.{eq-eqb, ne-eqb}
 use lib.ListN.{length, getD, set, length-set}
 use lib.Seq.{getD-set-same, getD-set-other}
 use Rattle.rules.specs.Map.{set-state, Allocated}
-use Rattle.leaf_free.specs.FreeList.{chunk-of, capacity-of, count-of, goal-of, place, pushed, joined, grown-words, fallen, fresh-words, popped, top, ready, CanStart, CanGrow, CanPop, Popped, free-list}
+use Rattle.leaf_free.specs.FreeList.{capacity-of, count-of, goal-of, place, pushed, joined, grown-words, fallen, fresh-words, popped, ready, CanStart, CanGrow, CanPop, Popped}
 
 -- ---- push
 

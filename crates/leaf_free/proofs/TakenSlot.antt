@@ -2,23 +2,23 @@
 use mathlib.Core.Path.{_≡_, refl, sym, ap, _∙_, subst}
 use mathlib.Core.Bool.{Bool, true, false, not}
 use mathlib.Core.List.{List, [], _∷_, _++_, reverse}
-use Prim.Native.Nat.{ℕ, zero, suc, _+_, _-_, _*_, _/_, _%_, _≤_, _<_}
+use Prim.Native.Nat.{ℕ, zero, suc, _+_, _-_, _/_, _%_, _≤_, _<_}
 use native.Mathlib.Omega.{arith}
 use native.Mathlib.Decide.{ℕ-discrete, decLt}
 use borrow.Author.Tests.{eqb-true, eq-eqb, ne-eqb}
 use lib.Dec.{eqb, ltb, lit<}
-use lib.ListN.{length, getD, List·getD-eq-default}
-use Rattle.laws.specs.Basics.{choose, both, either, every, every-below, count, rising, zeros, basics}
-use Rattle.laws.proofs.Tests.{both-left, both-right, both-true, either-right, below-all, all-below}
+use lib.ListN.{getD, List·getD-eq-default}
+use Rattle.laws.specs.Basics.{choose, both, either, every, count, rising, zeros, basics}
+use Rattle.laws.proofs.Tests.{both-right, both-true, either-right, below-all, all-below}
 use Rattle.laws.proofs.Zeros.{falling}
-use Rattle.rules.specs.Map.{state-in, state-of, set-state, is-allocated, Allocated, Free, map-rules}
-use Rattle.rules.specs.Cells.{Cell, plain, undefined}
-use Rattle.rules.specs.Heap.{Heap, Entry, Given, capacity, cell-at, in-use, reaches, most-growths, grow, pop, alloc}
+use Rattle.rules.specs.Map.{state-in, state-of, set-state, is-allocated, Allocated, Free}
+use Rattle.rules.specs.Cells.{plain, undefined}
+use Rattle.rules.specs.Heap.{Heap, Given, capacity, cell-at, in-use, reaches, most-growths, grow, pop, alloc}
 use Rattle.rules.specs.Sound.{is-free, is-undefined, free-once, free-undefined, states-settled, capacity-grown}
 use Rattle.rules.proofs.TwoBits.{state-past, state-same, state-other}
 use Rattle.leaf_free.proofs.Growth.{reaches-grown}
 use Rattle.leaf_free.proofs.FreeWords.{goal, same-cells}
-use Rattle.leaf_free.proofs.Allocating.{Growing, Room, Next, Filled, next, empty, free-or-not, taken, pop-is, alloc-next, alloc-empty, alloc-growing, grow-growing, grow-next, goal-above, grown-size, grown-free, grown-above, next-below, next-in-map}
+use Rattle.leaf_free.proofs.Allocating.{Growing, Room, Next, next, empty, free-or-not, taken, pop-is, alloc-next, alloc-empty, alloc-growing, grow-growing, grow-next, goal-above, grown-size, grown-free, grown-above, next-below, next-in-map}
 
 -- ---- what a slot taken leaves
 

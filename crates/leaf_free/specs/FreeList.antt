@@ -1,6 +1,6 @@
 -- The free list in the lent words: the number of its places in word 2, place i in column 4 of row i, the next slot at the
 -- highest place in use. What each step stores there. Document 01, "Slots and growth". Assumes nothing.
-use mathlib.Core.Bool.{Bool, true, false}
+use mathlib.Core.Bool.{true, false}
 use mathlib.Core.Path.{_≡_}
 use mathlib.Core.List.{List}
 use Prim.Native.Nat.{ℕ, zero, suc, _+_, _-_, _*_, _/_, _<_, _≤_}
