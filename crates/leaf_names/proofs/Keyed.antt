@@ -9,7 +9,8 @@ use native.Mathlib.Decide.{ℕ-discrete}
 use borrow.Author.Tests.{not-true, not-false}
 use lib.ListN.{length, getD, take, drop, length-drop}
 use lib.Seq.{drop-cons}
-use Rattle.laws.specs.Basics.{both, count, rising, basics}
+use lib.Dec.{eqb}
+use Rattle.laws.specs.Basics.{both, same, count, rising, basics}
 use Rattle.laws.specs.Sorting.{Permuted, Sorted}
 use Rattle.laws.proofs.Tests.{true≢false, both-left, both-right}
 use Rattle.laws.proofs.Lists.{length-rising, getD-rising, count-rising-in}
@@ -17,7 +18,7 @@ use Rattle.laws.proofs.Sorting.{counted, counted-twice, Stands, stands, permute
 use Rattle.leaf_names.specs.Ordering.{Standing, before, level, after, is-level, not-after, flip, then, number-compare, name-compare, Key, key-compare}
 use Rattle.leaf_names.specs.Keys.{key-of, Within, Entries, Goes, alike, neighbours-differ}
 use Rattle.leaf_names.specs.Sinking.{Arranged}
-use Rattle.leaf_names.proofs.Ordered.{Trichotomy, less, equal, more, trichotomy, level-is, not-level-is, after-is, key-flip, key-level, key-level-is, key-chain, key-antisym, then-not-after}
+use Rattle.leaf_names.proofs.Ordered.{Trichotomy, less, equal, more, trichotomy, level-is, not-level-is, after-is, key-flip, key-level, key-level-is, key-chain, key-antisym, then-not-after, number-same, same-level}
 
 -- ---- the key's parts
 
@@ -28,18 +29,6 @@ unfolding key-of
 key-name keys bytes e =
     let size : getD keys (3 * e) 0 + getD keys (3 * e + 1) 0 - getD keys (3 * e) 0 ≡ getD keys (3 * e + 1) 0 = omega arith in
     ap (λ (n : ℕ). take n (drop (getD keys (3 * e) 0) bytes)) size
-
--- how two keys stand to each other, by how their names do
-module _ (k l : Key) where
-  pub by-name : (s : Standing) → s ≡ name-compare (k .name) (l .name) → (s ≡ level → ⊥) → s ≡ key-compare k l
-  unfolding key-compare
-  by-name before e n = ap (λ (s : Standing). then s (number-compare (k .scope) (l .scope))) e
-  by-name level e n = absurd (n refl)
-  by-name after e n = ap (λ (s : Standing). then s (number-compare (k .scope) (l .scope))) e
-
-  pub by-scope : level ≡ name-compare (k .name) (l .name) → number-compare (k .scope) (l .scope) ≡ key-compare k l
-  unfolding key-compare
-  by-scope e = ap (λ (s : Standing). then s (number-compare (k .scope) (l .scope))) e
 
 module _ (keys bytes : List ℕ) where
   -- ---- the order of entries
@@ -80,6 +69,26 @@ module _ (keys bytes : List ℕ) where
   pub alike-key : (d e : ℕ) → alike keys bytes d e ≡ true → key-of keys bytes d ≡ key-of keys bytes e
   unfolding alike
   alike-key d e h = key-level-is (key-of keys bytes d) (key-of keys bytes e) (level-is _ h)
+
+  -- the same scope and the same name, as tests
+  pub alike-parts : (d e : ℕ)
+      → alike keys bytes d e
+      ≡ both (eqb (key-of keys bytes d .scope) (key-of keys bytes e .scope)) (same (key-of keys bytes d .name) (key-of keys bytes e .name))
+  unfolding alike key-compare
+  alike-parts d e =
+      by (name-compare (key-of keys bytes d .name) (key-of keys bytes e .name)) (number-compare (key-of keys bytes d .scope) (key-of keys bytes e .scope))
+      ∙ (λ i. both (sym (number-same (key-of keys bytes d .scope) (key-of keys bytes e .scope)) i) (sym (same-level (key-of keys bytes d .name) (key-of keys bytes e .name)) i))
+    where
+      by : (s t : Standing) → is-level (then s t) ≡ both (is-level t) (is-level s)
+      by before before = refl
+      by before level = refl
+      by before after = refl
+      by level before = refl
+      by level level = refl
+      by level after = refl
+      by after before = refl
+      by after level = refl
+      by after after = refl
 
   pub key-alike : (d e : ℕ) → key-of keys bytes d ≡ key-of keys bytes e → alike keys bytes d e ≡ true
   unfolding alike
@@ -226,41 +235,32 @@ module _ (keys bytes : List ℕ) where
 
   -- ---- the loop over neighbours
 
-  module _ (l : List ℕ) where
-    next : (j : ℕ) → suc j < length l
-        → neighbours-differ keys bytes (drop j l)
-        ≡ both (not (alike keys bytes (getD l j 0) (getD l (suc j) 0))) (neighbours-differ keys bytes (drop (suc j) l))
-    unfolding neighbours-differ
-    next j h =
-        let k : j < length l = omega arith in
-        rw (drop-cons l j 0 k, drop-cons l (suc j) 0 h)
-
-    next-at : (i : ℕ) → 1 ≤ i → i < length l
-        → neighbours-differ keys bytes (drop (i - 1) l)
-        ≡ both (not (alike keys bytes (getD l (i - 1) 0) (getD l i 0))) (neighbours-differ keys bytes (drop i l))
-    next-at zero p h = absurd (omega arith)
-    next-at (suc j) p h =
-        subst⁻¹
-        (λ (k : ℕ). neighbours-differ keys bytes (drop k l)
-        ≡ both (not (alike keys bytes (getD l k 0) (getD l (suc j) 0))) (neighbours-differ keys bytes (drop (suc j) l)))
-        (omega arith) (next j h)
-
-    module _ (i : ℕ) (now : neighbours-differ keys bytes l ≡ neighbours-differ keys bytes (drop (i - 1) l)) (p : 1 ≤ i) where
-      pub distinct-stops : (h : i < length l) → alike keys bytes (getD l (i - 1) 0) (getD l i 0) ≡ true → false ≡ neighbours-differ keys bytes l
-      distinct-stops h e = sym (now ∙ next-at i p h ∙ ap (λ (t : Bool). both (not t) (neighbours-differ keys bytes (drop i l))) e)
-
-      pub distinct-on : (h : i < length l) → alike keys bytes (getD l (i - 1) 0) (getD l i 0) ≡ false
-          → neighbours-differ keys bytes l ≡ neighbours-differ keys bytes (drop (i + 1 - 1) l)
-      distinct-on h e =
-          let k : i ≡ i + 1 - 1 = omega arith in
-          now ∙ next-at i p h ∙ ap (λ (t : Bool). both (not t) (neighbours-differ keys bytes (drop i l))) e
-          ∙ ap (λ (j : ℕ). neighbours-differ keys bytes (drop j l)) k
-
-      pub distinct-ends : length l ≤ i → true ≡ neighbours-differ keys bytes l
+  module _ (l : List ℕ) (i : ℕ) (now : neighbours-differ keys bytes l ≡ neighbours-differ keys bytes (drop i l)) where
+    module _ (h : i + 1 < length l) where
+      next : neighbours-differ keys bytes (drop i l)
+          ≡ both (not (alike keys bytes (getD l i 0) (getD l (i + 1) 0))) (neighbours-differ keys bytes (drop (i + 1) l))
       unfolding neighbours-differ
-      distinct-ends h = sym (now ∙ short (drop (i - 1) l) (omega (arith, length-drop (i - 1) l)))
-        where
-          short : (m : List ℕ) → length m ≤ 1 → neighbours-differ keys bytes m ≡ true
-          short [] k = refl
-          short (d ∷ []) k = refl
-          short (d ∷ e ∷ m) k = absurd (omega arith)
+      next =
+          let k : i < length l = omega arith in
+          let j : suc i < length l = omega arith in
+          rw (add-one i, drop-cons l i 0 k, drop-cons l (suc i) 0 j)
+
+      turn : (t : Bool) → alike keys bytes (getD l i 0) (getD l (i + 1) 0) ≡ t
+          → neighbours-differ keys bytes l ≡ both (not t) (neighbours-differ keys bytes (drop (i + 1) l))
+      turn t e = now ∙ next ∙ ap (λ (t : Bool). both (not t) (neighbours-differ keys bytes (drop (i + 1) l))) e
+
+      pub distinct-stops : alike keys bytes (getD l i 0) (getD l (i + 1) 0) ≡ true → false ≡ neighbours-differ keys bytes l
+      distinct-stops e = sym (turn true e)
+
+      pub distinct-on : alike keys bytes (getD l i 0) (getD l (i + 1) 0) ≡ false
+          → neighbours-differ keys bytes l ≡ neighbours-differ keys bytes (drop (i + 1) l)
+      distinct-on e = turn false e
+
+    pub distinct-ends : length l ≤ i + 1 → true ≡ neighbours-differ keys bytes l
+    unfolding neighbours-differ
+    distinct-ends h = sym (now ∙ short (drop i l) (omega (arith, length-drop i l)))
+      where
+        short : (m : List ℕ) → length m ≤ 1 → neighbours-differ keys bytes m ≡ true
+        short [] k = refl
+        short (d ∷ []) k = refl
+        short (d ∷ e ∷ m) k = absurd (omega arith)
