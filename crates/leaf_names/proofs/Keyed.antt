@@ -7,8 +7,8 @@ use native.Mathlib.Omega.{arith}
 use native.Mathlib.Numerals.{add-one}
 use native.Mathlib.Decide.{ℕ-discrete}
 use borrow.Author.Tests.{not-true, not-false}
-use lib.ListN.{length, getD, take, drop, length-drop}
-use lib.Seq.{drop-cons}
+use lib.ListN.{length, getD, take, drop, set, length-drop, length-set}
+use lib.Seq.{drop-cons, length-take-le, getD-take, getD-set-same, getD-set-other}
 use lib.Dec.{eqb}
 use Rattle.laws.specs.Basics.{both, same, count, rising, basics}
 use Rattle.laws.specs.Sorting.{Permuted, Sorted}
@@ -56,6 +56,30 @@ module _ (keys bytes : List ℕ) where
 
   pub entries-permuted : {xs ys : List ℕ} → Permuted xs ys → Entries keys bytes xs → Entries keys bytes ys
   entries-permuted p h = record { within = permuted-all (Within keys bytes) p (h .within) }
+
+  -- a list of entries is made from the front, one a store
+  pub entries-none : (l : List ℕ) → Entries keys bytes (take 0 l)
+  entries-none l = record { within = λ k h. absurd (omega arith) }
+
+  pub entries-more : (l : List ℕ) (n e : ℕ) → n < length l → Entries keys bytes (take n l) → Within keys bytes e
+      → Entries keys bytes (take (n + 1) (set l n e))
+  entries-more l n e h t w = record { within = within }
+    where
+      size : length (take (n + 1) (set l n e)) ≡ n + 1
+      size = length-take-le (n + 1) (set l n e) (omega (arith, length-set l n e))
+
+      within : (k : ℕ) → k < length (take (n + 1) (set l n e)) → Within keys bytes (getD (take (n + 1) (set l n e)) k 0)
+      within k i =
+          let there : getD (take (n + 1) (set l n e)) k 0 ≡ getD (set l n e) k 0 = getD-take (n + 1) (set l n e) k 0 (omega (arith, size)) in
+          elim (ℕ-discrete k n) [
+            | yes q ↦
+                subst⁻¹ (Within keys bytes)
+                (there ∙ ap (λ (j : ℕ). getD (set l n e) j 0) q ∙ getD-set-same l n e 0 h) w
+            | no d ↦
+                let small : k < n = omega (arith, size) in
+                subst⁻¹ (Within keys bytes) (there ∙ getD-set-other l n k e 0 d ∙ sym (getD-take n l k 0 small))
+                (t .within k (omega (arith, length-take-le n l (omega arith))))
+          ]
 
   -- where no two entries share a key, the arranged list is one
   pub sort-determined : {xs ys zs : List ℕ} → Arranged (Goes keys bytes) xs ys → Arranged (Goes keys bytes) xs zs
