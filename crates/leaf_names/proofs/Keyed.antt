@@ -18,7 +18,7 @@ use Rattle.laws.proofs.Sorting.{counted, counted-twice, Stands, stands, permute
 use Rattle.leaf_names.specs.Ordering.{Standing, before, level, after, is-level, not-after, flip, then, number-compare, name-compare, Key, key-compare}
 use Rattle.leaf_names.specs.Keys.{key-of, Within, Entries, Goes, alike, neighbours-differ}
 use Rattle.leaf_names.specs.Sinking.{Arranged}
-use Rattle.leaf_names.proofs.Ordered.{Trichotomy, less, equal, more, trichotomy, level-is, not-level-is, after-is, key-flip, key-level, key-level-is, key-chain, key-antisym, then-not-after, number-same, same-level}
+use Rattle.leaf_names.proofs.Ordered.{Trichotomy, less, equal, more, trichotomy, level-is, not-level-is, after-is, key-flip, key-level, key-level-is, key-chain, key-antisym, then-not-after, number-same, same-level, name-level}
 
 -- ---- the key's parts
 
@@ -31,6 +31,14 @@ key-name keys bytes e =
     ap (λ (n : ℕ). take n (drop (getD keys (3 * e) 0) bytes)) size
 
 module _ (keys bytes : List ℕ) where
+  -- one part of the bytes is one name
+  pub one-part : (d e : ℕ) → getD keys (3 * d) 0 ≡ getD keys (3 * e) 0 → getD keys (3 * d + 1) 0 ≡ getD keys (3 * e + 1) 0
+      → level ≡ name-compare (key-of keys bytes d .name) (key-of keys bytes e .name)
+  unfolding key-of
+  one-part d e p q =
+      sym (name-level (key-of keys bytes d .name))
+      ∙ (λ i. name-compare (key-of keys bytes d .name) (take (q i) (drop (p i) bytes)))
+
   -- ---- the order of entries
 
   pub goes-refl : (d : ℕ) → Goes keys bytes d d

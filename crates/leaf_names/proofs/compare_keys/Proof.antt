@@ -2,18 +2,12 @@
 use mathlib.Core.Path.{_∙_}
 use borrow.Author.Needs.{needs}
 use Rattle.leaf_names.specs.Keys.{key-of}
-use Rattle.leaf_names.specs.Ordering.{then, name-compare, key-compare}
+use Rattle.leaf_names.specs.Ordering.{then, key-compare}
 use Rattle.leaf_names.proofs.compare_keys.Statement.{statement}
 use Rattle.leaf_names.proofs.compare_keys.Tie as tie
 
-name-requires : tie.Need-name-requires
-name-requires c κs = search needs
-
-name-requires-2 : tie.Need-name-requires-2
-name-requires-2 c κs = search needs
-
-compare-requires : tie.Need-compare-requires
-compare-requires c κs = search needs
+compare-names-requires : tie.Need-compare-names-requires
+compare-names-requires c κs = search needs
 
 mul-compare-numbers : tie.Need-mul-compare-numbers
 mul-compare-numbers c = search needs
@@ -47,15 +41,13 @@ then-requires c κs = search needs
 
 returns : tie.Need-returns
 unfolding key-compare key-of
-returns c = c .then .ensures ∙ (λ i. then ((c .before .before .before .before .compare .ensures ∙ (λ j. name-compare (c .before .before .before .before .before .before .name .ensures j) (c .before .before .before .before .before .name2 .ensures j))) i) (c .before .compare-numbers .ensures i))
+returns c = c .then .ensures ∙ (λ i. then (c .before .before .before .before .compare-names .ensures i) (c .before .compare-numbers .ensures i))
 
 pub compare-keys-spec : {M : Type 1} → statement M
 compare-keys-spec =
     tie.close
     (tie.spec
-    name-requires
-    name-requires-2
-    compare-requires
+    compare-names-requires
     mul-compare-numbers
     add-compare-numbers
     mul-compare-numbers-2
