@@ -7,9 +7,10 @@ use native.Mathlib.Omega.{arith}
 use native.Mathlib.Numerals.{add-one}
 use native.Mathlib.Decide.{ℕ-discrete}
 use borrow.Author.Tests.{not-true, not-false}
-use lib.ListN.{length, getD, take, drop, length-drop}
-use lib.Seq.{drop-cons}
-use Rattle.laws.specs.Basics.{both, count, rising, basics}
+use lib.ListN.{length, getD, take, drop, set, length-drop, length-set}
+use lib.Seq.{drop-cons, length-take-le, getD-take, getD-set-same, getD-set-other}
+use lib.Dec.{eqb}
+use Rattle.laws.specs.Basics.{both, same, count, rising, basics}
 use Rattle.laws.specs.Sorting.{Permuted, Sorted}
 use Rattle.laws.proofs.Tests.{true≢false, both-left, both-right}
 use Rattle.laws.proofs.Lists.{length-rising, getD-rising, count-rising-in}
@@ -17,7 +18,7 @@ use Rattle.laws.proofs.Sorting.{counted, counted-twice, Stands, stands, permute
 use Rattle.leaf_names.specs.Ordering.{Standing, before, level, after, is-level, not-after, flip, then, number-compare, name-compare, Key, key-compare}
 use Rattle.leaf_names.specs.Keys.{key-of, Within, Entries, Goes, alike, neighbours-differ}
 use Rattle.leaf_names.specs.Sinking.{Arranged}
-use Rattle.leaf_names.proofs.Ordered.{Trichotomy, less, equal, more, trichotomy, level-is, not-level-is, after-is, key-flip, key-level, key-level-is, key-chain, key-antisym, then-not-after}
+use Rattle.leaf_names.proofs.Ordered.{Trichotomy, less, equal, more, trichotomy, level-is, not-level-is, after-is, key-flip, key-level, key-level-is, key-chain, key-antisym, then-not-after, number-same, same-level, name-level}
 
 -- ---- the key's parts
 
@@ -29,19 +30,15 @@ key-name keys bytes e =
     let size : getD keys (3 * e) 0 + getD keys (3 * e + 1) 0 - getD keys (3 * e) 0 ≡ getD keys (3 * e + 1) 0 = omega arith in
     ap (λ (n : ℕ). take n (drop (getD keys (3 * e) 0) bytes)) size
 
--- how two keys stand to each other, by how their names do
-module _ (k l : Key) where
-  pub by-name : (s : Standing) → s ≡ name-compare (k .name) (l .name) → (s ≡ level → ⊥) → s ≡ key-compare k l
-  unfolding key-compare
-  by-name before e n = ap (λ (s : Standing). then s (number-compare (k .scope) (l .scope))) e
-  by-name level e n = absurd (n refl)
-  by-name after e n = ap (λ (s : Standing). then s (number-compare (k .scope) (l .scope))) e
-
-  pub by-scope : level ≡ name-compare (k .name) (l .name) → number-compare (k .scope) (l .scope) ≡ key-compare k l
-  unfolding key-compare
-  by-scope e = ap (λ (s : Standing). then s (number-compare (k .scope) (l .scope))) e
-
 module _ (keys bytes : List ℕ) where
+  -- one part of the bytes is one name
+  pub one-part : (d e : ℕ) → getD keys (3 * d) 0 ≡ getD keys (3 * e) 0 → getD keys (3 * d + 1) 0 ≡ getD keys (3 * e + 1) 0
+      → level ≡ name-compare (key-of keys bytes d .name) (key-of keys bytes e .name)
+  unfolding key-of
+  one-part d e p q =
+      sym (name-level (key-of keys bytes d .name))
+      ∙ (λ i. name-compare (key-of keys bytes d .name) (take (q i) (drop (p i) bytes)))
+
   -- ---- the order of entries
 
   pub goes-refl : (d : ℕ) → Goes keys bytes d d
@@ -68,6 +65,30 @@ module _ (keys bytes : List ℕ) where
   pub entries-permuted : {xs ys : List ℕ} → Permuted xs ys → Entries keys bytes xs → Entries keys bytes ys
   entries-permuted p h = record { within = permuted-all (Within keys bytes) p (h .within) }
 
+  -- a list of entries is made from the front, one a store
+  pub entries-none : (l : List ℕ) → Entries keys bytes (take 0 l)
+  entries-none l = record { within = λ k h. absurd (omega arith) }
+
+  pub entries-more : (l : List ℕ) (n e : ℕ) → n < length l → Entries keys bytes (take n l) → Within keys bytes e
+      → Entries keys bytes (take (n + 1) (set l n e))
+  entries-more l n e h t w = record { within = within }
+    where
+      size : length (take (n + 1) (set l n e)) ≡ n + 1
+      size = length-take-le (n + 1) (set l n e) (omega (arith, length-set l n e))
+
+      within : (k : ℕ) → k < length (take (n + 1) (set l n e)) → Within keys bytes (getD (take (n + 1) (set l n e)) k 0)
+      within k i =
+          let there : getD (take (n + 1) (set l n e)) k 0 ≡ getD (set l n e) k 0 = getD-take (n + 1) (set l n e) k 0 (omega (arith, size)) in
+          elim (ℕ-discrete k n) [
+            | yes q ↦
+                subst⁻¹ (Within keys bytes)
+                (there ∙ ap (λ (j : ℕ). getD (set l n e) j 0) q ∙ getD-set-same l n e 0 h) w
+            | no d ↦
+                let small : k < n = omega (arith, size) in
+                subst⁻¹ (Within keys bytes) (there ∙ getD-set-other l n k e 0 d ∙ sym (getD-take n l k 0 small))
+                (t .within k (omega (arith, length-take-le n l (omega arith))))
+          ]
+
   -- where no two entries share a key, the arranged list is one
   pub sort-determined : {xs ys zs : List ℕ} → Arranged (Goes keys bytes) xs ys → Arranged (Goes keys bytes) xs zs
       → ((d e : ℕ) → 0 < count d xs → 0 < count e xs → key-of keys bytes d ≡ key-of keys bytes e → d ≡ e) → ys ≡ zs
@@ -80,6 +101,26 @@ module _ (keys bytes : List ℕ) where
   pub alike-key : (d e : ℕ) → alike keys bytes d e ≡ true → key-of keys bytes d ≡ key-of keys bytes e
   unfolding alike
   alike-key d e h = key-level-is (key-of keys bytes d) (key-of keys bytes e) (level-is _ h)
+
+  -- the same scope and the same name, as tests
+  pub alike-parts : (d e : ℕ)
+      → alike keys bytes d e
+      ≡ both (eqb (key-of keys bytes d .scope) (key-of keys bytes e .scope)) (same (key-of keys bytes d .name) (key-of keys bytes e .name))
+  unfolding alike key-compare
+  alike-parts d e =
+      by (name-compare (key-of keys bytes d .name) (key-of keys bytes e .name)) (number-compare (key-of keys bytes d .scope) (key-of keys bytes e .scope))
+      ∙ (λ i. both (sym (number-same (key-of keys bytes d .scope) (key-of keys bytes e .scope)) i) (sym (same-level (key-of keys bytes d .name) (key-of keys bytes e .name)) i))
+    where
+      by : (s t : Standing) → is-level (then s t) ≡ both (is-level t) (is-level s)
+      by before before = refl
+      by before level = refl
+      by before after = refl
+      by level before = refl
+      by level level = refl
+      by level after = refl
+      by after before = refl
+      by after level = refl
+      by after after = refl
 
   pub key-alike : (d e : ℕ) → key-of keys bytes d ≡ key-of keys bytes e → alike keys bytes d e ≡ true
   unfolding alike
@@ -226,41 +267,32 @@ module _ (keys bytes : List ℕ) where
 
   -- ---- the loop over neighbours
 
-  module _ (l : List ℕ) where
-    next : (j : ℕ) → suc j < length l
-        → neighbours-differ keys bytes (drop j l)
-        ≡ both (not (alike keys bytes (getD l j 0) (getD l (suc j) 0))) (neighbours-differ keys bytes (drop (suc j) l))
-    unfolding neighbours-differ
-    next j h =
-        let k : j < length l = omega arith in
-        rw (drop-cons l j 0 k, drop-cons l (suc j) 0 h)
-
-    next-at : (i : ℕ) → 1 ≤ i → i < length l
-        → neighbours-differ keys bytes (drop (i - 1) l)
-        ≡ both (not (alike keys bytes (getD l (i - 1) 0) (getD l i 0))) (neighbours-differ keys bytes (drop i l))
-    next-at zero p h = absurd (omega arith)
-    next-at (suc j) p h =
-        subst⁻¹
-        (λ (k : ℕ). neighbours-differ keys bytes (drop k l)
-        ≡ both (not (alike keys bytes (getD l k 0) (getD l (suc j) 0))) (neighbours-differ keys bytes (drop (suc j) l)))
-        (omega arith) (next j h)
-
-    module _ (i : ℕ) (now : neighbours-differ keys bytes l ≡ neighbours-differ keys bytes (drop (i - 1) l)) (p : 1 ≤ i) where
-      pub distinct-stops : (h : i < length l) → alike keys bytes (getD l (i - 1) 0) (getD l i 0) ≡ true → false ≡ neighbours-differ keys bytes l
-      distinct-stops h e = sym (now ∙ next-at i p h ∙ ap (λ (t : Bool). both (not t) (neighbours-differ keys bytes (drop i l))) e)
-
-      pub distinct-on : (h : i < length l) → alike keys bytes (getD l (i - 1) 0) (getD l i 0) ≡ false
-          → neighbours-differ keys bytes l ≡ neighbours-differ keys bytes (drop (i + 1 - 1) l)
-      distinct-on h e =
-          let k : i ≡ i + 1 - 1 = omega arith in
-          now ∙ next-at i p h ∙ ap (λ (t : Bool). both (not t) (neighbours-differ keys bytes (drop i l))) e
-          ∙ ap (λ (j : ℕ). neighbours-differ keys bytes (drop j l)) k
-
-      pub distinct-ends : length l ≤ i → true ≡ neighbours-differ keys bytes l
+  module _ (l : List ℕ) (i : ℕ) (now : neighbours-differ keys bytes l ≡ neighbours-differ keys bytes (drop i l)) where
+    module _ (h : i + 1 < length l) where
+      next : neighbours-differ keys bytes (drop i l)
+          ≡ both (not (alike keys bytes (getD l i 0) (getD l (i + 1) 0))) (neighbours-differ keys bytes (drop (i + 1) l))
       unfolding neighbours-differ
-      distinct-ends h = sym (now ∙ short (drop (i - 1) l) (omega (arith, length-drop (i - 1) l)))
-        where
-          short : (m : List ℕ) → length m ≤ 1 → neighbours-differ keys bytes m ≡ true
-          short [] k = refl
-          short (d ∷ []) k = refl
-          short (d ∷ e ∷ m) k = absurd (omega arith)
+      next =
+          let k : i < length l = omega arith in
+          let j : suc i < length l = omega arith in
+          rw (add-one i, drop-cons l i 0 k, drop-cons l (suc i) 0 j)
+
+      turn : (t : Bool) → alike keys bytes (getD l i 0) (getD l (i + 1) 0) ≡ t
+          → neighbours-differ keys bytes l ≡ both (not t) (neighbours-differ keys bytes (drop (i + 1) l))
+      turn t e = now ∙ next ∙ ap (λ (t : Bool). both (not t) (neighbours-differ keys bytes (drop (i + 1) l))) e
+
+      pub distinct-stops : alike keys bytes (getD l i 0) (getD l (i + 1) 0) ≡ true → false ≡ neighbours-differ keys bytes l
+      distinct-stops e = sym (turn true e)
+
+      pub distinct-on : alike keys bytes (getD l i 0) (getD l (i + 1) 0) ≡ false
+          → neighbours-differ keys bytes l ≡ neighbours-differ keys bytes (drop (i + 1) l)
+      distinct-on e = turn false e
+
+    pub distinct-ends : length l ≤ i + 1 → true ≡ neighbours-differ keys bytes l
+    unfolding neighbours-differ
+    distinct-ends h = sym (now ∙ short (drop i l) (omega (arith, length-drop i l)))
+      where
+        short : (m : List ℕ) → length m ≤ 1 → neighbours-differ keys bytes m ≡ true
+        short [] k = refl
+        short (d ∷ []) k = refl
+        short (d ∷ e ∷ m) k = absurd (omega arith)

@@ -97,6 +97,14 @@ number-level-is x y e =
       | more h ↦ absurd (not-level-is after refl (sym (number-after x y h) ∙ e))
     ]
 
+pub number-same : (x y : ℕ) → eqb x y ≡ is-level (number-compare x y)
+number-same x y =
+    elim (trichotomy x y) [
+      | less h ↦ rw (number-before x y h, ne-eqb x y (λ e. omega arith))
+      | equal h ↦ rw (number-level x y h, eq-eqb x y h)
+      | more h ↦ rw (number-after x y h, ne-eqb x y (λ e. omega arith))
+    ]
+
 pub number-flip : (x y : ℕ) → number-compare y x ≡ flip (number-compare x y)
 number-flip x y =
     elim (trichotomy x y) [

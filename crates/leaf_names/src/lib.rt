@@ -9,7 +9,7 @@ ghost use Prim.Native.Nat.{_+_, _*_, _<_, _≤_};
 ghost use lib.ListN.{length};
 ghost use Rattle.laws.specs.Basics.{same};
 ghost use Rattle.laws.specs.Sorting.{swapped};
-ghost use Rattle.leaf_names.specs.Ordering.{shown, not-after, number-compare, name-compare, key-compare};
+ghost use Rattle.leaf_names.specs.Ordering.{shown, then, not-after, number-compare, name-compare, key-compare};
 ghost use Rattle.leaf_names.specs.Keys.{key-of, Within, Entries, Goes, alike, neighbours-differ};
 ghost use Rattle.leaf_names.specs.Sinking.{Heaped, Chosen, Sunk, Built, Arranged};
 
@@ -74,6 +74,17 @@ fn compare_numbers(x: u64, y: u64) -> Order
     if y < x { Order::After } else { Order::Same }
 }
 
+// The first decides, and where it is level the second does.
+fn then(first: Order, second: Order) -> Order
+    ensures { λ r. ⌜ shown r ≡ then (shown first) (shown second) ⌝ }
+{
+    match first {
+        Order::Before => Order::Before,
+        Order::Same => second,
+        Order::After => Order::After,
+    }
+}
+
 // An entry's name, as the part of the bytes that holds it.
 pub fn name<'a>(keys: &[u64], bytes: &'a [u8], e: u64) -> &'a [u8]
     requires { ⌜ Within (now keys) (now bytes) e ⌝ }
@@ -85,18 +96,34 @@ pub fn name<'a>(keys: &[u64], bytes: &'a [u8], e: u64) -> &'a [u8]
     &bytes[place..end]
 }
 
+// How the name of entry `d` stands to that of entry `e`. A part of the bytes that both share is not read, so that many entries
+// over one long name cost no more than over a short one.
+fn compare_names(keys: &[u64], bytes: &[u8], d: u64, e: u64) -> Order
+    requires { ⌜ Within (now keys) (now bytes) d ⌝ }
+    requires { ⌜ Within (now keys) (now bytes) e ⌝ }
+    ensures { λ r. ⌜ shown r ≡ name-compare (key-of (now (keys .entry)) (now (bytes .entry)) d .name) (key-of (now (keys .entry)) (now (bytes .entry)) e .name) ⌝ }
+{
+    let a = keys[3 * d as usize];
+    let b = keys[3 * e as usize];
+    if a == b {
+        let m = keys[3 * d as usize + 1];
+        let n = keys[3 * e as usize + 1];
+        if m == n {
+            return Order::Same;
+        }
+    }
+    compare(name(keys, bytes, d), name(keys, bytes, e))
+}
+
 // How the key of entry `d` stands to that of entry `e`: by name, then by scope.
 pub fn compare_keys(keys: &[u64], bytes: &[u8], d: u64, e: u64) -> Order
     requires { ⌜ Within (now keys) (now bytes) d ⌝ }
     requires { ⌜ Within (now keys) (now bytes) e ⌝ }
     ensures { λ r. ⌜ shown r ≡ key-compare (key-of (now (keys .entry)) (now (bytes .entry)) d) (key-of (now (keys .entry)) (now (bytes .entry)) e) ⌝ }
 {
-    let order = compare(name(keys, bytes, d), name(keys, bytes, e));
-    match order {
-        Order::Before => Order::Before,
-        Order::Same => compare_numbers(keys[3 * d as usize + 2], keys[3 * e as usize + 2]),
-        Order::After => Order::After,
-    }
+    let by_name = compare_names(keys, bytes, d, e);
+    let by_scope = compare_numbers(keys[3 * d as usize + 2], keys[3 * e as usize + 2]);
+    then(by_name, by_scope)
 }
 
 // Entry `d` does not stand after entry `e`.
@@ -217,9 +244,9 @@ pub fn distinct(order: &[u64], keys: &[u64], bytes: &[u8]) -> bool
     requires { ⌜ Entries (now keys) (now bytes) (now order) ⌝ }
     ensures { λ r. ⌜ r ≡ neighbours-differ (now (keys .entry)) (now (bytes .entry)) (now (order .entry)) ⌝ }
 {
-    let mut i = 1;
-    while i < order.len() {
-        if alike(keys, bytes, order[i - 1], order[i]) {
+    let mut i = 0;
+    while i + 1 < order.len() {
+        if alike(keys, bytes, order[i], order[i + 1]) {
             return false;
         }
         i += 1;

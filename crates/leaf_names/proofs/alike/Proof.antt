@@ -1,42 +1,32 @@
 -- `leaf_names::alike`: what the comparison says, told by its three cases. Assumes nothing.
+use mathlib.Core.Path.{sym, ap, _∙_}
+use borrow.Author.Needs.{needs}
 use Rattle.leaf_names.specs.declared.Order.{Order}
 use Rattle.leaf_names.specs.Ordering.{shown, is-level}
 use Rattle.leaf_names.specs.Keys.{alike}
-use mathlib.Core.Path.{sym, ap, _∙_}
-use borrow.Author.Needs.{needs}
 use Rattle.leaf_names.proofs.alike.Statement.{statement}
 use Rattle.leaf_names.proofs.alike.Tie as tie
-use Rattle.leaf_names.proofs.alike.Reads as reads
-use Rattle.leaf_names.proofs.alike.Lts as lts
-use Rattle.leaf_names.proofs.compare_keys.Reads as compare-keys-reads
 
--- src/lib.rt:207:9
 compare-keys-requires : tie.Need-compare-keys-requires
 compare-keys-requires c κs = search needs
 
--- src/lib.rt:209:26
 enum-told : tie.Need-enum-told
 enum-told c = search needs
 
--- src/lib.rt:210:24
 enum-told-2 : tie.Need-enum-told-2
 enum-told-2 c = search needs
 
--- src/lib.rt:211:25
 enum-told-3 : tie.Need-enum-told-3
 enum-told-3 c = search needs
 
--- src/lib.rt:202:1
 returns : tie.Need-returns
 unfolding alike
 returns c = ap (λ (o : Order). is-level (shown o)) (sym (c .enum-told .given .1)) ∙ ap is-level (c .before .before .compare-keys .ensures)
 
--- src/lib.rt:202:1
 returns-2 : tie.Need-returns-2
 unfolding alike
 returns-2 c = ap (λ (o : Order). is-level (shown o)) (sym (c .enum-told2 .given .1)) ∙ ap is-level (c .before .before .compare-keys .ensures)
 
--- src/lib.rt:202:1
 returns-3 : tie.Need-returns-3
 unfolding alike
 returns-3 c = ap (λ (o : Order). is-level (shown o)) (sym (c .enum-told3 .given .1)) ∙ ap is-level (c .before .before .compare-keys .ensures)

@@ -1,18 +1,15 @@
 -- `leaf_names::build`: from the place on all is in place. Assumes nothing.
-use Rattle.leaf_names.proofs.Sunken.{build-begins, build-under, build-ends}
-use Rattle.leaf_names.proofs.Keyed.{entries-permuted}
-use Rattle.leaf_names.specs.Sinking.{Heaped}
-use Rattle.leaf_names.specs.Keys.{Goes}
-use Rattle.laws.proofs.Sorting.{permuted-refl, permuted-trans}
-use Rattle.laws.specs.Sorting.{Permuted}
-use lib.ListN.{length}
 use native.Mathlib.Omega.{arith}
 use borrow.Author.Needs.{needs}
+use lib.ListN.{length}
+use Rattle.laws.proofs.Sorting.{permuted-refl, permuted-trans}
+use Rattle.laws.specs.Sorting.{Permuted}
+use Rattle.leaf_names.specs.Sinking.{Heaped}
+use Rattle.leaf_names.specs.Keys.{Goes}
+use Rattle.leaf_names.proofs.Sunken.{build-begins, build-under, build-ends}
+use Rattle.leaf_names.proofs.Keyed.{entries-permuted}
 use Rattle.leaf_names.proofs.build.Statement.{statement}
 use Rattle.leaf_names.proofs.build.Tie as tie
-use Rattle.leaf_names.proofs.build.Reads as reads
-use Rattle.leaf_names.proofs.build.Lts as lts
-use Rattle.leaf_names.proofs.sink.Reads as sink-reads
 
 abbrev Inv-loop : tie.InvT-loop
 Inv-loop order₀ keys bytes count from₀ order from = Permuted order₀ order × Heaped (Goes keys bytes) order from (length order₀)
@@ -20,31 +17,24 @@ Inv-loop order₀ keys bytes count from₀ order from = Permuted order₀ order 
 abbrev μ-loop : tie.MeasureT-loop
 μ-loop order₀ keys bytes count from₀ order from = from
 
--- src/lib.rt:170:5
 loop-holds : tie.Need-loop-holds Inv-loop μ-loop
 loop-holds c = (permuted-refl (c .before .before .before .args .order .now), build-begins (Goes (c .before .before .before .args .keys .now) (c .before .before .before .args .bytes .now)) (c .before .before .before .args .order .now))
 
--- src/lib.rt:171:9
 sub-from : tie.Need-sub-from Inv-loop μ-loop
 sub-from c = search needs
 
--- src/lib.rt:172:9
 sink-requires : tie.Need-sink-requires Inv-loop μ-loop
 sink-requires c κs = (entries-permuted (c .before .before .before .before .before .before .args .keys .now) (c .before .before .before .before .before .before .args .bytes .now) (c .before .before .loop .inv .0) (c .before .before .before .before .before .before .pre), (omega (arith, c .before .before .loop .inv .0 .size), build-under (Goes (c .before .before .before .before .before .before .args .keys .now) (c .before .before .before .before .before .before .args .bytes .now)) (c .before .loop-test .taken) (c .before .before .loop .inv .1)))
 
--- src/lib.rt:170:5
 loop-less : tie.Need-loop-less Inv-loop μ-loop
 loop-less c = search needs
 
--- src/lib.rt:170:5
 loop-again : tie.Need-loop-again Inv-loop μ-loop
 loop-again c = (permuted-trans (c .before .before .before .before .before .loop .inv .0) (c .before .before .sink .ensures .permuted), c .before .before .sink .ensures .heaped)
 
--- src/lib.rt:164:1
 same-length : tie.Need-same-length Inv-loop μ-loop
 same-length c = c .before .loop .inv .0 .size
 
--- src/lib.rt:164:1
 returns : tie.Need-returns Inv-loop μ-loop
 returns c = build-ends (Goes (c .before .before .before .before .before .args .keys .now) (c .before .before .before .before .before .args .bytes .now)) (c .before .loop .inv .0) (c .before .loop .inv .1) (c .loop-test .left)
 

@@ -1,19 +1,15 @@
 -- `leaf_names::drain`: what stands from the place on is in order, and goes after all the rest. Assumes nothing.
-use Rattle.leaf_names.proofs.Sunken.{Draining, drain-begins, drain-asks, drain-turns, drain-ends}
-use Rattle.leaf_names.proofs.Keyed.{goes-refl, goes-trans, entries-permuted}
-use Rattle.leaf_names.specs.Sinking.{Sunk}
-use Rattle.leaf_names.specs.Keys.{Goes}
-use native.Mathlib.Omega.{arith}
-use Prim.Native.Nat.{ℕ, _-_}
 use mathlib.Core.List.{List}
 use mathlib.Core.Path.{subst}
+use Prim.Native.Nat.{ℕ, _-_}
+use native.Mathlib.Omega.{arith}
 use borrow.Author.Needs.{needs}
+use Rattle.leaf_names.specs.Sinking.{Sunk}
+use Rattle.leaf_names.specs.Keys.{Goes}
+use Rattle.leaf_names.proofs.Sunken.{Draining, drain-begins, drain-asks, drain-turns, drain-ends}
+use Rattle.leaf_names.proofs.Keyed.{goes-refl, goes-trans, entries-permuted}
 use Rattle.leaf_names.proofs.drain.Statement.{statement}
 use Rattle.leaf_names.proofs.drain.Tie as tie
-use Rattle.leaf_names.proofs.drain.Reads as reads
-use Rattle.leaf_names.proofs.drain.Lts as lts
-use Rattle.leaf_names.proofs.sink.Reads as sink-reads
-use Rattle.leaf_names.proofs.swap.Reads as swap-reads
 
 abbrev Inv-loop : tie.InvT-loop
 Inv-loop order₀ keys bytes left₀ order left = Draining (Goes keys bytes) order₀ order left
@@ -21,37 +17,29 @@ Inv-loop order₀ keys bytes left₀ order left = Draining (Goes keys bytes) ord
 abbrev μ-loop : tie.MeasureT-loop
 μ-loop order₀ keys bytes left₀ order left = left
 
--- src/lib.rt:183:5
 loop-holds : tie.Need-loop-holds Inv-loop μ-loop
 loop-holds c = drain-begins (Goes (c .before .before .before .args .keys .now) (c .before .before .before .args .bytes .now)) (goes-refl (c .before .before .before .args .keys .now) (c .before .before .before .args .bytes .now)) (goes-trans (c .before .before .before .args .keys .now) (c .before .before .before .args .bytes .now)) (c .before .before .before .args .order .now) (c .before .before .before .pre .1)
 
--- src/lib.rt:184:9
 sub-left : tie.Need-sub-left Inv-loop μ-loop
 sub-left c = search needs
 
--- src/lib.rt:185:9
 swap-requires : tie.Need-swap-requires Inv-loop μ-loop
 swap-requires c κs = (omega (arith, c .before .before .loop .inv .fits), omega (arith, c .before .before .loop .inv .fits))
 
--- src/lib.rt:186:9
 sink-requires : tie.Need-sink-requires Inv-loop μ-loop
-sink-requires c κs = (entries-permuted (c .before .before .before .before .before .before .before .before .before .before .args .keys .now) (c .before .before .before .before .before .before .before .before .before .before .args .bytes .now) ((drain-asks (Goes (c .before .before .before .before .before .before .before .before .before .before .args .keys .now) (c .before .before .before .before .before .before .before .before .before .before .args .bytes .now)) (goes-refl (c .before .before .before .before .before .before .before .before .before .before .args .keys .now) (c .before .before .before .before .before .before .before .before .before .before .args .bytes .now)) (goes-trans (c .before .before .before .before .before .before .before .before .before .before .args .keys .now) (c .before .before .before .before .before .before .before .before .before .before .args .bytes .now)) (c .before .before .before .before .before .before .loop .inv) (c .before .before .before .before .before .loop-test .taken) _ (c .before .before .before .swap .ensures)) .0) (c .before .before .before .before .before .before .before .before .before .before .pre .0), ((drain-asks (Goes (c .before .before .before .before .before .before .before .before .before .before .args .keys .now) (c .before .before .before .before .before .before .before .before .before .before .args .bytes .now)) (goes-refl (c .before .before .before .before .before .before .before .before .before .before .args .keys .now) (c .before .before .before .before .before .before .before .before .before .before .args .bytes .now)) (goes-trans (c .before .before .before .before .before .before .before .before .before .before .args .keys .now) (c .before .before .before .before .before .before .before .before .before .before .args .bytes .now)) (c .before .before .before .before .before .before .loop .inv) (c .before .before .before .before .before .loop-test .taken) _ (c .before .before .before .swap .ensures)) .1, (drain-asks (Goes (c .before .before .before .before .before .before .before .before .before .before .args .keys .now) (c .before .before .before .before .before .before .before .before .before .before .args .bytes .now)) (goes-refl (c .before .before .before .before .before .before .before .before .before .before .args .keys .now) (c .before .before .before .before .before .before .before .before .before .before .args .bytes .now)) (goes-trans (c .before .before .before .before .before .before .before .before .before .before .args .keys .now) (c .before .before .before .before .before .before .before .before .before .before .args .bytes .now)) (c .before .before .before .before .before .before .loop .inv) (c .before .before .before .before .before .loop-test .taken) _ (c .before .before .before .swap .ensures)) .2))
+sink-requires c κs = (entries-permuted (c .before .before .before .before .before .before .before .before .before .before .args .keys .now) (c .before .before .before .before .before .before .before .before .before .before .args .bytes .now) ((drain-asks (Goes (c .before .before .before .before .before .before .before .before .before .before .args .keys .now) (c .before .before .before .before .before .before .before .before .before .before .args .bytes .now)) (goes-refl (c .before .before .before .before .before .before .before .before .before .before .args .keys .now) (c .before .before .before .before .before .before .before .before .before .before .args .bytes .now)) (goes-trans (c .before .before .before .before .before .before .before .before .before .before .args .keys .now) (c .before .before .before .before .before .before .before .before .before .before .args .bytes .now)) (c .before .before .before .before .before .before .loop .inv) (omega arith) _ (c .before .before .before .swap .ensures)) .0) (c .before .before .before .before .before .before .before .before .before .before .pre .0), ((drain-asks (Goes (c .before .before .before .before .before .before .before .before .before .before .args .keys .now) (c .before .before .before .before .before .before .before .before .before .before .args .bytes .now)) (goes-refl (c .before .before .before .before .before .before .before .before .before .before .args .keys .now) (c .before .before .before .before .before .before .before .before .before .before .args .bytes .now)) (goes-trans (c .before .before .before .before .before .before .before .before .before .before .args .keys .now) (c .before .before .before .before .before .before .before .before .before .before .args .bytes .now)) (c .before .before .before .before .before .before .loop .inv) (omega arith) _ (c .before .before .before .swap .ensures)) .1, (drain-asks (Goes (c .before .before .before .before .before .before .before .before .before .before .args .keys .now) (c .before .before .before .before .before .before .before .before .before .before .args .bytes .now)) (goes-refl (c .before .before .before .before .before .before .before .before .before .before .args .keys .now) (c .before .before .before .before .before .before .before .before .before .before .args .bytes .now)) (goes-trans (c .before .before .before .before .before .before .before .before .before .before .args .keys .now) (c .before .before .before .before .before .before .before .before .before .before .args .bytes .now)) (c .before .before .before .before .before .before .loop .inv) (omega arith) _ (c .before .before .before .swap .ensures)) .2))
 
--- src/lib.rt:183:5
 loop-less : tie.Need-loop-less Inv-loop μ-loop
 loop-less c = search needs
 
--- src/lib.rt:183:5
 loop-again : tie.Need-loop-again Inv-loop μ-loop
-loop-again c = drain-turns (Goes (c .before .before .before .before .before .before .before .before .before .before .before .before .before .args .keys .now) (c .before .before .before .before .before .before .before .before .before .before .before .before .before .args .bytes .now)) (goes-refl (c .before .before .before .before .before .before .before .before .before .before .before .before .before .args .keys .now) (c .before .before .before .before .before .before .before .before .before .before .before .before .before .args .bytes .now)) (goes-trans (c .before .before .before .before .before .before .before .before .before .before .before .before .before .args .keys .now) (c .before .before .before .before .before .before .before .before .before .before .before .before .before .args .bytes .now)) (c .before .before .before .before .before .before .before .before .before .loop .inv) (c .before .before .before .before .before .before .before .before .loop-test .taken) (subst (λ (l : List ℕ). Sunk (Goes (c .before .before .before .before .before .before .before .before .before .before .before .before .before .args .keys .now) (c .before .before .before .before .before .before .before .before .before .before .before .before .before .args .bytes .now)) l (c .before .before .sink .last .0) 0 (c .before .before .before .before .before .before .before .before .before .loop .left - 1)) (c .before .before .before .before .before .before .swap .ensures) (c .before .before .sink .ensures))
+loop-again c = drain-turns (Goes (c .before .before .before .before .before .before .before .before .before .before .before .before .before .args .keys .now) (c .before .before .before .before .before .before .before .before .before .before .before .before .before .args .bytes .now)) (goes-refl (c .before .before .before .before .before .before .before .before .before .before .before .before .before .args .keys .now) (c .before .before .before .before .before .before .before .before .before .before .before .before .before .args .bytes .now)) (goes-trans (c .before .before .before .before .before .before .before .before .before .before .before .before .before .args .keys .now) (c .before .before .before .before .before .before .before .before .before .before .before .before .before .args .bytes .now)) (c .before .before .before .before .before .before .before .before .before .loop .inv) (omega arith) (subst (λ (l : List ℕ). Sunk (Goes (c .before .before .before .before .before .before .before .before .before .before .before .before .before .args .keys .now) (c .before .before .before .before .before .before .before .before .before .before .before .before .before .args .bytes .now)) l (c .before .before .sink .last .0) 0 (c .before .before .before .before .before .before .before .before .before .loop .left - 1)) (c .before .before .before .before .before .before .swap .ensures) (c .before .before .sink .ensures))
 
--- src/lib.rt:177:1
 same-length : tie.Need-same-length Inv-loop μ-loop
 same-length c = c .before .loop .inv .permuted .size
 
--- src/lib.rt:177:1
 returns : tie.Need-returns Inv-loop μ-loop
-returns c = drain-ends (Goes (c .before .before .before .before .before .args .keys .now) (c .before .before .before .before .before .args .bytes .now)) (goes-refl (c .before .before .before .before .before .args .keys .now) (c .before .before .before .before .before .args .bytes .now)) (goes-trans (c .before .before .before .before .before .args .keys .now) (c .before .before .before .before .before .args .bytes .now)) (c .before .loop .inv) (c .loop-test .left)
+returns c = drain-ends (Goes (c .before .before .before .before .before .args .keys .now) (c .before .before .before .before .before .args .bytes .now)) (goes-refl (c .before .before .before .before .before .args .keys .now) (c .before .before .before .before .before .args .bytes .now)) (goes-trans (c .before .before .before .before .before .args .keys .now) (c .before .before .before .before .before .args .bytes .now)) (c .before .loop .inv) (omega arith)
 
 pub drain-spec : {M : Type 1} → statement M
 drain-spec =

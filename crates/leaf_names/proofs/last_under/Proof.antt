@@ -1,58 +1,44 @@
 -- `leaf_names::last_under`: one place, or the later of two. Assumes nothing.
+use mathlib.Core.Path.{sym, _∙_}
+use Prim.Native.Nat.{_+_, _*_}
+use native.Mathlib.Omega.{arith}
+use borrow.Author.Needs.{needs}
+use Rattle.leaf_names.specs.Keys.{Goes}
 use Rattle.leaf_names.proofs.Sunken.{chosen-only, chosen-left, chosen-right}
 use Rattle.leaf_names.proofs.Keyed.{goes-refl, goes-back}
-use Rattle.leaf_names.specs.Keys.{Goes}
-use native.Mathlib.Omega.{arith}
-use Prim.Native.Nat.{_+_, _*_}
-use mathlib.Core.Path.{sym, _∙_}
-use borrow.Author.Needs.{needs}
 use Rattle.leaf_names.proofs.last_under.Statement.{statement}
 use Rattle.leaf_names.proofs.last_under.Tie as tie
-use Rattle.leaf_names.proofs.last_under.Reads as reads
-use Rattle.leaf_names.proofs.last_under.Lts as lts
-use Rattle.leaf_names.proofs.goes.Reads as goes-reads
 
--- src/lib.rt:133:16
 mul-left : tie.Need-mul-left
 mul-left c = search needs
 
--- src/lib.rt:133:16
 add-left : tie.Need-add-left
 add-left c = search needs
 
--- src/lib.rt:134:17
 add-right : tie.Need-add-right
 add-right c = search needs
 
--- src/lib.rt:136:9
 returns : tie.Need-returns
 returns c = chosen-only (Goes (c .before .before .before .before .args .keys .now) (c .before .before .before .before .args .bytes .now)) (goes-refl (c .before .before .before .before .args .keys .now) (c .before .before .before .before .args .bytes .now)) (c .before .before .before .before .args .order .now) (c .before .before .before .before .args .at) (c .before .before .before .before .args .count) (c .before .before .before .before .pre .1 .0) (c .if1 .taken)
 
--- src/lib.rt:138:26
 mul-goes : tie.Need-mul-goes
 mul-goes c = search needs
 
--- src/lib.rt:138:26
 shared-slice-read-goes : tie.Need-shared-slice-read-goes
 shared-slice-read-goes c = search needs
 
--- src/lib.rt:138:39
 mul-goes-2 : tie.Need-mul-goes-2
 mul-goes-2 c = search needs
 
--- src/lib.rt:138:39
 shared-slice-read-goes-2 : tie.Need-shared-slice-read-goes-2
 shared-slice-read-goes-2 c = search needs
 
--- src/lib.rt:138:8
 goes-requires : tie.Need-goes-requires
 goes-requires c κs = (c .before .before .before .before .before .before .pre .0 .within (2 * c .before .before .before .before .before .before .args .at + 1) (omega arith), c .before .before .before .before .before .before .pre .0 .within (2 * c .before .before .before .before .before .before .args .at + 1 + 1) (omega arith))
 
--- src/lib.rt:127:1
 returns-2 : tie.Need-returns-2
 returns-2 c = chosen-right (Goes (c .before .before .before .before .before .before .before .before .args .keys .now) (c .before .before .before .before .before .before .before .before .args .bytes .now)) (goes-refl (c .before .before .before .before .before .before .before .before .args .keys .now) (c .before .before .before .before .before .before .before .before .args .bytes .now)) (c .before .before .before .before .before .before .before .before .args .order .now) (c .before .before .before .before .before .before .before .before .args .at) (c .before .before .before .before .before .before .before .before .args .count) (c .before .before .before .before .before .before .before .before .pre .1 .0) (c .before .before .before .before .if1 .left) (record { goes = sym (c .before .goes .ensures) ∙ c .if2 .taken })
 
--- src/lib.rt:127:1
 returns-3 : tie.Need-returns-3
 returns-3 c = chosen-left (Goes (c .before .before .before .before .before .before .before .before .args .keys .now) (c .before .before .before .before .before .before .before .before .args .bytes .now)) (goes-refl (c .before .before .before .before .before .before .before .before .args .keys .now) (c .before .before .before .before .before .before .before .before .args .bytes .now)) (c .before .before .before .before .before .before .before .before .args .order .now) (c .before .before .before .before .before .before .before .before .args .at) (c .before .before .before .before .before .before .before .before .args .count) (c .before .before .before .before .before .before .before .before .pre .1 .0) (goes-back (c .before .before .before .before .before .before .before .before .args .keys .now) (c .before .before .before .before .before .before .before .before .args .bytes .now) _ _ (sym (c .before .goes .ensures) ∙ c .if2 .left))
 

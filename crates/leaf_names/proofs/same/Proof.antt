@@ -1,15 +1,13 @@
 -- `leaf_names::same`: up to the place the names are the same, and the rest decides. Assumes nothing.
-use Rattle.leaf_names.proofs.Turns.{differs, same-so-far, same-ended, same-length-is}
-use Rattle.laws.specs.Basics.{same}
-use native.Mathlib.Omega.{arith}
-use lib.ListN.{length, drop}
-use Prim.Native.Nat.{_≤_, _-_}
 use mathlib.Core.Path.{_≡_, refl, sym, _∙_}
+use Prim.Native.Nat.{_≤_, _-_}
+use native.Mathlib.Omega.{arith}
 use borrow.Author.Needs.{needs}
+use lib.ListN.{length, drop}
+use Rattle.laws.specs.Basics.{same}
+use Rattle.leaf_names.proofs.Turns.{differs, same-so-far, same-ended, same-length-is}
 use Rattle.leaf_names.proofs.same.Statement.{statement}
 use Rattle.leaf_names.proofs.same.Tie as tie
-use Rattle.leaf_names.proofs.same.Reads as reads
-use Rattle.leaf_names.proofs.same.Lts as lts
 
 abbrev Inv-loop : tie.InvT-loop
 Inv-loop a b i₀ i = (i ≤ length a) × (length a ≡ length b) × (same a b ≡ same (drop i a) (drop i b))
@@ -17,39 +15,30 @@ Inv-loop a b i₀ i = (i ≤ length a) × (length a ≡ length b) × (same a b �
 abbrev μ-loop : tie.MeasureT-loop
 μ-loop a b i₀ i = length a - i
 
--- src/lib.rt:42:9
 returns : tie.Need-returns Inv-loop μ-loop
 returns c = same-length-is (c .before .args .a .now) (c .before .args .b .now) (c .if1 .taken)
 
--- src/lib.rt:45:5
 loop-holds : tie.Need-loop-holds Inv-loop μ-loop
 loop-holds c = (search needs, search needs, refl)
 
--- src/lib.rt:46:17
 shared-slice-read-x : tie.Need-shared-slice-read-x Inv-loop μ-loop
 shared-slice-read-x c = search needs
 
--- src/lib.rt:47:17
 shared-slice-read-y : tie.Need-shared-slice-read-y Inv-loop μ-loop
 shared-slice-read-y c = search needs
 
--- src/lib.rt:49:13
 returns-2 : tie.Need-returns-2 Inv-loop μ-loop
 returns-2 c = differs (c .before .before .before .before .before .before .args .a .now) (c .before .before .before .before .before .before .args .b .now) (c .before .before .before .before .loop .i) (c .before .before .before .loop-test .taken) (omega arith) (c .if2 .taken) ∙ sym (c .before .before .before .before .loop .inv .2)
 
--- src/lib.rt:51:9
 add-i : tie.Need-add-i Inv-loop μ-loop
 add-i c = search needs
 
--- src/lib.rt:45:5
 loop-less : tie.Need-loop-less Inv-loop μ-loop
 loop-less c = search needs
 
--- src/lib.rt:45:5
 loop-again : tie.Need-loop-again Inv-loop μ-loop
 loop-again c = (search needs, search needs, c .before .before .before .before .loop .inv .2 ∙ same-so-far (c .before .before .before .before .before .before .args .a .now) (c .before .before .before .before .before .before .args .b .now) (c .before .before .before .before .loop .i) (c .before .before .before .loop-test .taken) (omega arith) (c .if2 .left))
 
--- src/lib.rt:38:1
 returns-3 : tie.Need-returns-3 Inv-loop μ-loop
 returns-3 c = same-ended (c .before .before .before .args .a .now) (c .before .before .before .args .b .now) (c .before .loop .i) (c .loop-test .left) (omega arith) ∙ sym (c .before .loop .inv .2)
 

@@ -1,21 +1,14 @@
-use Prim.Native.Nat.{ℕ}
-use mathlib.Core.List.{List}
-use mathlib.Core.Path.{subst⁻¹}
 -- `leaf_names::sink`: only what stands under the place may be out of place. Assumes nothing.
+use mathlib.Core.List.{List}
+use mathlib.Core.Path.{subst⁻¹, sym, _∙_}
+use Prim.Native.Nat.{ℕ, _-_}
+use native.Mathlib.Omega.{arith}
+use borrow.Author.Needs.{needs}
+use Rattle.leaf_names.specs.Keys.{Goes}
 use Rattle.leaf_names.proofs.Sunken.{Sinking, sink-begins, sink-stops, sink-turns, sink-ends}
 use Rattle.leaf_names.proofs.Keyed.{goes-trans, goes-back, entries-permuted}
-use Rattle.leaf_names.specs.Keys.{Goes}
-use native.Mathlib.Omega.{arith}
-use Prim.Native.Nat.{_-_}
-use mathlib.Core.Path.{sym, _∙_}
-use borrow.Author.Needs.{needs}
 use Rattle.leaf_names.proofs.sink.Statement.{statement}
 use Rattle.leaf_names.proofs.sink.Tie as tie
-use Rattle.leaf_names.proofs.sink.Reads as reads
-use Rattle.leaf_names.proofs.sink.Lts as lts
-use Rattle.leaf_names.proofs.goes.Reads as goes-reads
-use Rattle.leaf_names.proofs.last_under.Reads as last-under-reads
-use Rattle.leaf_names.proofs.swap.Reads as swap-reads
 
 abbrev Inv-loop : tie.InvT-loop
 Inv-loop order₀ keys bytes from count at₀ order at = Sinking (Goes keys bytes) order₀ order from count at
@@ -23,59 +16,45 @@ Inv-loop order₀ keys bytes from count at₀ order at = Sinking (Goes keys byte
 abbrev μ-loop : tie.MeasureT-loop
 μ-loop order₀ keys bytes from count at₀ order at = count - at
 
--- src/lib.rt:153:5
 loop-holds : tie.Need-loop-holds Inv-loop μ-loop
 loop-holds c = sink-begins (Goes (c .before .before .before .args .keys .now) (c .before .before .before .args .bytes .now)) (c .before .before .before .args .order .now) (c .before .before .before .args .from) (c .before .before .before .args .count) (c .before .before .before .pre .1 .1)
 
--- src/lib.rt:154:13
 last-under-requires : tie.Need-last-under-requires Inv-loop μ-loop
 last-under-requires c κs = (entries-permuted (c .before .before .before .before .before .before .args .keys .now) (c .before .before .before .before .before .before .args .bytes .now) (c .before .before .loop .inv .permuted) (c .before .before .before .before .before .before .pre .0), (omega arith, omega (arith, c .before .before .loop .inv .permuted .size, c .before .before .before .before .before .before .pre .1 .0)))
 
--- src/lib.rt:155:30
 mul-goes : tie.Need-mul-goes Inv-loop μ-loop
 mul-goes c = search needs
 
--- src/lib.rt:155:30
 slice-read-goes : tie.Need-slice-read-goes Inv-loop μ-loop
 slice-read-goes c = omega (arith, c .before .last-under .ensures .inside, c .before .before .before .before .loop .inv .permuted .size, c .before .before .before .before .before .before .before .before .pre .1 .0)
 
--- src/lib.rt:155:44
 mul-goes-2 : tie.Need-mul-goes-2 Inv-loop μ-loop
 mul-goes-2 c = search needs
 
--- src/lib.rt:155:44
 slice-read-goes-2 : tie.Need-slice-read-goes-2 Inv-loop μ-loop
 slice-read-goes-2 c = omega (arith, c .before .before .last-under .ensures .inside, c .before .before .last-under .ensures .low, c .before .before .before .before .before .loop .inv .permuted .size, c .before .before .before .before .before .before .before .before .before .pre .1 .0)
 
--- src/lib.rt:155:12
 goes-requires : tie.Need-goes-requires Inv-loop μ-loop
 goes-requires c κs = ((entries-permuted (c .before .before .before .before .before .before .before .before .before .args .keys .now) (c .before .before .before .before .before .before .before .before .before .args .bytes .now) (c .before .before .before .before .before .loop .inv .permuted) (c .before .before .before .before .before .before .before .before .before .pre .0)) .within (c .before .before .last-under .result) (omega (arith, c .before .before .last-under .ensures .inside, c .before .before .before .before .before .loop .inv .permuted .size, c .before .before .before .before .before .before .before .before .before .pre .1 .0)), (entries-permuted (c .before .before .before .before .before .before .before .before .before .args .keys .now) (c .before .before .before .before .before .before .before .before .before .args .bytes .now) (c .before .before .before .before .before .loop .inv .permuted) (c .before .before .before .before .before .before .before .before .before .pre .0)) .within (c .before .before .before .before .before .loop .at) (omega (arith, c .before .before .last-under .ensures .inside, c .before .before .last-under .ensures .low, c .before .before .before .before .before .loop .inv .permuted .size, c .before .before .before .before .before .before .before .before .before .pre .1 .0)))
 
--- src/lib.rt:156:13
 same-length : tie.Need-same-length Inv-loop μ-loop
 same-length c = c .before .before .before .before .before .before .before .loop .inv .permuted .size
 
--- src/lib.rt:156:13
 returns : tie.Need-returns Inv-loop μ-loop
 returns c = sink-stops (Goes (c .before .before .before .before .before .before .before .before .before .before .before .args .keys .now) (c .before .before .before .before .before .before .before .before .before .before .before .args .bytes .now)) (c .before .before .before .before .before .before .before .loop .inv) (c .before .before .before .before .last-under .ensures) (goes-trans (c .before .before .before .before .before .before .before .before .before .before .before .args .keys .now) (c .before .before .before .before .before .before .before .before .before .before .before .args .bytes .now)) (record { goes = sym (c .before .goes .ensures) ∙ c .if1 .taken })
 
--- src/lib.rt:158:9
 swap-requires : tie.Need-swap-requires Inv-loop μ-loop
 swap-requires c κs = (omega (arith, c .before .before .before .before .before .last-under .ensures .inside, c .before .before .before .before .before .last-under .ensures .low, c .before .before .before .before .before .before .before .before .loop .inv .permuted .size, c .before .before .before .before .before .before .before .before .before .before .before .before .pre .1 .0), omega (arith, c .before .before .before .before .before .last-under .ensures .inside, c .before .before .before .before .before .before .before .before .loop .inv .permuted .size, c .before .before .before .before .before .before .before .before .before .before .before .before .pre .1 .0))
 
--- src/lib.rt:153:5
 loop-less : tie.Need-loop-less Inv-loop μ-loop
 loop-less c = omega (arith, c .before .before .before .before .before .before .before .before .last-under .ensures .low)
 
--- src/lib.rt:153:5
 loop-again : tie.Need-loop-again Inv-loop μ-loop
 loop-again c = subst⁻¹ (λ (l : List ℕ). Sinking (Goes (c .before .before .before .before .before .before .before .before .before .before .before .before .before .before .before .args .keys .now) (c .before .before .before .before .before .before .before .before .before .before .before .before .before .before .before .args .bytes .now)) (c .before .before .before .before .before .before .before .before .before .before .before .before .before .before .before .args .order .now) l (c .before .before .before .before .before .before .before .before .before .before .before .before .before .before .before .args .from) (c .before .before .before .before .before .before .before .before .before .before .before .before .before .before .before .args .count) (c .before .before .before .before .before .before .before .before .last-under .result)) (c .before .before .swap .ensures) (sink-turns (Goes (c .before .before .before .before .before .before .before .before .before .before .before .before .before .before .before .args .keys .now) (c .before .before .before .before .before .before .before .before .before .before .before .before .before .before .before .args .bytes .now)) (c .before .before .before .before .before .before .before .before .before .before .before .loop .inv) (c .before .before .before .before .before .before .before .before .last-under .ensures) (omega (arith, c .before .before .before .before .before .before .before .before .before .before .before .loop .inv .permuted .size, c .before .before .before .before .before .before .before .before .before .before .before .before .before .before .before .pre .1 .0)) (goes-back (c .before .before .before .before .before .before .before .before .before .before .before .before .before .before .before .args .keys .now) (c .before .before .before .before .before .before .before .before .before .before .before .before .before .before .before .args .bytes .now) _ _ (sym (c .before .before .before .before .before .goes .ensures) ∙ c .before .before .before .before .if1 .left)))
 
--- src/lib.rt:146:1
 same-length-2 : tie.Need-same-length-2 Inv-loop μ-loop
 same-length-2 c = c .before .loop .inv .permuted .size
 
--- src/lib.rt:146:1
 returns-2 : tie.Need-returns-2 Inv-loop μ-loop
 returns-2 c = sink-ends (Goes (c .before .before .before .before .before .args .keys .now) (c .before .before .before .before .before .args .bytes .now)) (c .before .loop .inv) (c .loop-test .left)
 
