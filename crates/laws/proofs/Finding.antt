@@ -1,11 +1,11 @@
--- The first and the kept of a list under tests that agree, and a list that is told on by its default. Assumes nothing.
-use mathlib.Core.Path.{_≡_, refl, sym, ap, _∙_}
+-- The first and the kept of a list, under tests that agree on its elements. Assumes nothing.
+use mathlib.Core.Path.{_≡_, refl, ap, _∙_}
 use mathlib.Core.Bool.{Bool, true, false}
-use mathlib.Core.List.{List, [], _∷_, _++_}
-use mathlib.Core.Option.{Option, none, some}
-use Prim.Native.Nat.{ℕ, zero, suc, _≤_, _<_}
+use mathlib.Core.List.{List, [], _∷_}
+use mathlib.Core.Option.{Option, some}
+use Prim.Native.Nat.{ℕ, suc, _≤_, _<_}
 use native.Mathlib.Omega.{arith}
-use lib.ListN.{length, getD, replicate}
+use lib.ListN.{length, getD}
 use Rattle.laws.specs.Basics.{choose, find, keep, basics}
 
 module _ {A : Type 0} (d : A) (f g : A → Bool) where
@@ -34,11 +34,3 @@ pub keep-most : {A : Type 0} (f : A → Bool) (l : List A) → length (keep f l)
 unfolding basics
 keep-most f [] = omega arith
 keep-most f (x ∷ l) = chosen-most (f x) x (keep f l) (length l) (keep-most f l)
-
--- past a list its default is what is read there anyway
-pub getD-before-default : {A : Type 0} (d : A) (l : List A) (n i : ℕ) → getD (l ++ replicate n d) i d ≡ getD l i d
-getD-before-default d [] zero i = refl
-getD-before-default d [] (suc n) zero = refl
-getD-before-default d [] (suc n) (suc i) = getD-before-default d [] n i
-getD-before-default d (x ∷ l) n zero = refl
-getD-before-default d (x ∷ l) n (suc i) = getD-before-default d l n i

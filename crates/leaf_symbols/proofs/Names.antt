@@ -1,8 +1,7 @@
 -- A part of the bytes in use by its place and size, and the name that a slot's words say. Assumes nothing.
 use mathlib.Core.Path.{_≡_, refl, sym, ap, _∙_}
-use mathlib.Core.Bool.{Bool, true, false}
 use mathlib.Core.List.{List, [], _∷_}
-use mathlib.Core.Logic.{_⊎_, inl, inr}
+use mathlib.Core.Logic.{inl, inr}
 use Prim.Native.Nat.{ℕ, zero, suc, _+_, _-_, _*_, _≤_, _<_}
 use native.Mathlib.Omega.{arith}
 use borrow.Author.Tests.{ne-eqb}
@@ -10,9 +9,7 @@ use lib.Dec.{eqb}
 use lib.ListN.{length, getD, take, drop, length-take, length-drop}
 use lib.Seq.{ext-getD, getD-take, getD-drop}
 use Rattle.laws.specs.Basics.{same, basics}
-use Rattle.rules.specs.Cells.{Cell}
 use Rattle.rules.specs.Layout.{cell-from, layout-rules}
-use Rattle.leaf_cells.specs.Cells.{loaded}
 use Rattle.leaf_cells.proofs.KindLaws.{loaded-here}
 use Rattle.leaf_symbols.specs.Table.{bytes-used, Least, cell-name, name-of}
 

@@ -3,16 +3,16 @@ use mathlib.Core.Path.{_≡_, refl, sym, ap, _∙_}
 use mathlib.Core.Bool.{Bool, true, false}
 use mathlib.Core.List.{List, [], _∷_}
 use mathlib.Core.Option.{Option, none, some}
-use Prim.Native.Nat.{ℕ, zero, suc, _+_, _-_, _*_, _≤_, _<_}
+use Prim.Native.Nat.{ℕ, suc, _+_, _-_, _*_, _≤_, _<_}
 use native.Mathlib.Omega.{arith}
 use borrow.Author.Tests.{eq-eqb, ne-eqb}
 use lib.ListN.{length, getD, set, replicate, length-set}
 use lib.Seq.{getD-set-other}
-use Rattle.laws.specs.Basics.{choose, both, find, keep, same, rising, basics}
+use Rattle.laws.specs.Basics.{choose, both, find, keep, same, basics}
 use Rattle.laws.proofs.Tests.{both-true}
 use Rattle.rules.specs.Map.{state-of, is-allocated, Allocated}
 use Rattle.rules.specs.Heap.{Entry}
-use Rattle.leaf_symbols.specs.Table.{count-of, name-of, entry, entry-in, entries-from, entries, is-entry, slot-of, found-in, stored-entry, stored-entries, added, kept-entries, ClosedUp, cleared, dropped}
+use Rattle.leaf_symbols.specs.Table.{count-of, name-of, entry, entry-in, entries-from, entries, is-entry, slot-of, found-in, stored-entry, stored-entries, kept-entries, ClosedUp, cleared, dropped}
 
 -- ---- finding
 

@@ -2,13 +2,13 @@
 -- row i; places past the count are zero. An entry's name is that of its slot's symbol. Document 01, "Slots and growth".
 -- Assumes nothing.
 use mathlib.Core.Path.{_≡_}
-use mathlib.Core.Bool.{Bool, true, false}
-use mathlib.Core.List.{List, [], _∷_, _++_, map}
+use mathlib.Core.Bool.{Bool}
+use mathlib.Core.List.{List, [], _∷_, map}
 use mathlib.Core.Logic.{_⊎_}
 use mathlib.Core.Option.{Option, none, some}
 use Prim.Native.Nat.{ℕ, zero, suc, _+_, _-_, _*_, _<_, _≤_}
 use lib.Dec.{eqb}
-use lib.ListN.{length, getD, set, take, drop, replicate}
+use lib.ListN.{length, getD, set, take, replicate}
 use Rattle.laws.specs.Basics.{both, find, keep, same, rising, basics}
 use Rattle.rules.specs.Map.{is-allocated}
 use Rattle.rules.specs.Cells.{Cell, plain, pair, symbol, string, vector}

@@ -3,8 +3,8 @@
 // of its entries in the header, an entry's slot and scope in two columns of the rows, in order of making. An entry's name
 // is that of its slot's symbol.
 ghost use mathlib.Core.Path.{_≡_};
-ghost use Prim.Native.Nat.{_+_, _*_, _<_, _≤_};
-ghost use lib.ListN.{length, getD, take, drop};
+ghost use Prim.Native.Nat.{_+_, _*_, _≤_};
+ghost use lib.ListN.{length, take, drop};
 ghost use Rattle.laws.specs.Basics.{same};
 ghost use Rattle.leaf_symbols.specs.Table.{count-of, bytes-used, Least, name-of, Tabled, shown-found, found-in, entry, stored-entry, added, ClosedUp, cleared, dropped};
 

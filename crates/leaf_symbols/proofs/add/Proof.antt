@@ -1,37 +1,28 @@
 -- `leaf_symbols::add`: the entry at the count's place, and the count. Assumes nothing.
-use mathlib.Core.Path.{ap, _∙_}
+use mathlib.Core.Path.{ap}
 use mathlib.Core.List.{List}
 use Prim.Native.Nat.{ℕ, _+_}
-use lib.ListN.{getD, set, length-set}
+use lib.ListN.{getD, set}
 use Rattle.leaf_symbols.specs.Table.{added}
 use borrow.Author.Needs.{needs}
 use Rattle.leaf_symbols.proofs.add.Statement.{statement}
 use Rattle.leaf_symbols.proofs.add.Tie as tie
-use Rattle.leaf_symbols.proofs.add.Reads as reads
-use Rattle.leaf_symbols.proofs.add.Lts as lts
-use Rattle.leaf_symbols.proofs.store_entry.Reads as store-entry-reads
 
--- src/lib.rt:91:17
 slice-read-count : tie.Need-slice-read-count
 slice-read-count c = search needs
 
--- src/lib.rt:92:5
 store-entry-requires : tie.Need-store-entry-requires
 store-entry-requires c κs = search needs
 
--- src/lib.rt:93:27
 add-words : tie.Need-add-words
 add-words c = search needs
 
--- src/lib.rt:93:5
 slice-write-words : tie.Need-slice-write-words
 slice-write-words c = search needs
 
--- src/lib.rt:87:1
 same-length : tie.Need-same-length
 same-length c = search needs
 
--- src/lib.rt:87:1
 returns : tie.Need-returns
 unfolding added
 returns c = ap (λ (l : List ℕ). set l 3 (getD (c .before .before .before .before .before .before .args .words .now) 3 0 + 1)) (c .before .before .store-entry .ensures)

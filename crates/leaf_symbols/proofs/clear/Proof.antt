@@ -1,5 +1,5 @@
 -- `leaf_symbols::clear`: what is cleared and what is left to clear make the whole. Assumes nothing.
-use mathlib.Core.Path.{_≡_, ap, sym, _∙_}
+use mathlib.Core.Path.{_≡_, ap, _∙_}
 use mathlib.Core.List.{List}
 use Prim.Native.Nat.{ℕ, _+_, _-_}
 use lib.ListN.{length}
@@ -8,9 +8,6 @@ use Rattle.leaf_symbols.proofs.Turns.{length-stored, cleared-on, cleare
 use borrow.Author.Needs.{needs}
 use Rattle.leaf_symbols.proofs.clear.Statement.{statement}
 use Rattle.leaf_symbols.proofs.clear.Tie as tie
-use Rattle.leaf_symbols.proofs.clear.Reads as reads
-use Rattle.leaf_symbols.proofs.clear.Lts as lts
-use Rattle.leaf_symbols.proofs.store_entry.Reads as store-entry-reads
 
 abbrev Inv-loop : tie.InvT-loop
 Inv-loop words₀ from to i₀ words i = (length words ≡ length words₀) × (cleared words i to ≡ cleared words₀ from to)
@@ -18,31 +15,24 @@ Inv-loop words₀ from to i₀ words i = (length words ≡ length words₀) × (
 abbrev μ-loop : tie.MeasureT-loop
 μ-loop words₀ from to i₀ words i = to - i
 
--- src/lib.rt:124:5
 loop-holds : tie.Need-loop-holds Inv-loop μ-loop
 loop-holds c = search needs
 
--- src/lib.rt:125:9
 store-entry-requires : tie.Need-store-entry-requires Inv-loop μ-loop
 store-entry-requires c κs = search needs
 
--- src/lib.rt:126:9
 add-i : tie.Need-add-i Inv-loop μ-loop
 add-i c = search needs
 
--- src/lib.rt:124:5
 loop-less : tie.Need-loop-less Inv-loop μ-loop
 loop-less c = search needs
 
--- src/lib.rt:124:5
 loop-again : tie.Need-loop-again Inv-loop μ-loop
 loop-again c = (ap length (c .before .before .store-entry .ensures) ∙ length-stored (c .before .before .before .before .before .loop .words) (c .before .before .before .before .before .loop .i) _ ∙ c .before .before .before .before .before .loop .inv .0, ap (λ (l : List ℕ). cleared l (c .before .before .before .before .before .loop .i + 1) (c .before .before .before .before .before .before .before .args .to)) (c .before .before .store-entry .ensures) ∙ cleared-on (c .before .before .before .before .before .loop .words) (c .before .before .before .before .before .loop .i) (c .before .before .before .before .before .before .before .args .to) (c .before .before .before .before .loop-test .taken) ∙ c .before .before .before .before .before .loop .inv .1)
 
--- src/lib.rt:119:1
 same-length : tie.Need-same-length Inv-loop μ-loop
 same-length c = c .before .loop .inv .0
 
--- src/lib.rt:119:1
 returns : tie.Need-returns Inv-loop μ-loop
 returns c = cleared-end (c .before .loop .words) (c .before .loop .i) (c .before .before .before .args .to) (c .loop-test .left) ∙ c .before .loop .inv .1
 

@@ -5,32 +5,22 @@ use Rattle.leaf_symbols.proofs.Turns.{drops, length-closed, length-clea
 use borrow.Author.Needs.{needs}
 use Rattle.leaf_symbols.proofs.drop_freed.Statement.{statement}
 use Rattle.leaf_symbols.proofs.drop_freed.Tie as tie
-use Rattle.leaf_symbols.proofs.drop_freed.Reads as reads
-use Rattle.leaf_symbols.proofs.drop_freed.Lts as lts
-use Rattle.leaf_symbols.proofs.clear.Reads as clear-reads
-use Rattle.leaf_symbols.proofs.close_up.Reads as close-up-reads
 
--- src/lib.rt:136:17
 slice-read-count : tie.Need-slice-read-count
 slice-read-count c = search needs
 
--- src/lib.rt:137:9
 close-up-requires : tie.Need-close-up-requires
 close-up-requires c κs = search needs
 
--- src/lib.rt:138:5
 clear-requires : tie.Need-clear-requires
 clear-requires c κs = search needs
 
--- src/lib.rt:139:5
 slice-write-words : tie.Need-slice-write-words
 slice-write-words c = search needs
 
--- src/lib.rt:131:1
 same-length : tie.Need-same-length
 same-length c = simp length-set (ap length (c .before .before .clear .ensures) ∙ length-cleared (c .before .before .before .before .before .before .close-up .last .0) (c .before .before .before .before .before .before .close-up .result) _ ∙ length-closed (c .before .before .before .before .before .before .before .before .before .before .before .args .words .now) (c .before .before .before .before .before .before .close-up .last .0) (c .before .before .before .before .before .before .before .before .before .before .before .args .map .now) (c .before .before .before .before .before .before .close-up .result) (c .before .before .before .before .before .before .close-up .ensures))
 
--- src/lib.rt:131:1
 returns : tie.Need-returns
 returns c = drops (c .before .before .before .before .before .before .before .before .before .before .before .args .words .now) (c .before .before .before .before .before .before .before .before .before .before .before .args .map .now) (c .before .before .before .before .before .before .close-up .last .0) _ (c .before .before .before .before .before .before .close-up .result) (c .before .before .before .before .before .before .close-up .ensures) (c .before .before .clear .ensures)
 

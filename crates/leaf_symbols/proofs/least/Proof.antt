@@ -4,14 +4,10 @@ use mathlib.Core.Logic.{inl, inr}
 use native.Mathlib.Omega.{arith}
 use Rattle.leaf_symbols.proofs.least.Statement.{statement}
 use Rattle.leaf_symbols.proofs.least.Tie as tie
-use Rattle.leaf_symbols.proofs.least.Reads as reads
-use Rattle.leaf_symbols.proofs.least.Lts as lts
 
--- src/lib.rt:19:1
 returns : tie.Need-returns
 returns c = record { low = omega arith; high = omega arith; one = inl refl }
 
--- src/lib.rt:19:1
 returns-2 : tie.Need-returns-2
 returns-2 c = record { low = omega arith; high = omega arith; one = inr refl }
 

@@ -6,46 +6,34 @@ use Rattle.leaf_symbols.specs.Table.{stored-entry}
 use borrow.Author.Needs.{needs}
 use Rattle.leaf_symbols.proofs.store_entry.Statement.{statement}
 use Rattle.leaf_symbols.proofs.store_entry.Tie as tie
-use Rattle.leaf_symbols.proofs.store_entry.Reads as reads
-use Rattle.leaf_symbols.proofs.store_entry.Lts as lts
 
--- src/lib.rt:81:18
 mul-at : tie.Need-mul-at
 mul-at c = search needs
 
--- src/lib.rt:81:14
 add-at : tie.Need-add-at
 add-at c = search needs
 
--- src/lib.rt:82:11
 add-words : tie.Need-add-words
 add-words c = search needs
 
--- src/lib.rt:82:5
 mul-words : tie.Need-mul-words
 mul-words c = search needs
 
--- src/lib.rt:82:5
 slice-write-words : tie.Need-slice-write-words
 slice-write-words c = search needs
 
--- src/lib.rt:83:11
 add-words-2 : tie.Need-add-words-2
 add-words-2 c = search needs
 
--- src/lib.rt:83:5
 mul-words-2 : tie.Need-mul-words-2
 mul-words-2 c = search needs
 
--- src/lib.rt:83:5
 slice-write-words-2 : tie.Need-slice-write-words-2
 slice-write-words-2 c = simp length-set (omega arith)
 
--- src/lib.rt:77:1
 same-length : tie.Need-same-length
 same-length c = search needs
 
--- src/lib.rt:77:1
 returns : tie.Need-returns
 unfolding stored-entry
 returns c = refl
