@@ -1,6 +1,7 @@
 #!/usr/bin/env python3
-"""Writes the stored cases of the programs run_map and run_utf8, with answers that are computed here in another way:
-the map as a list of states, UTF-8 by Python's strict decoder. Run at the root of the repository."""
+"""Writes the stored cases of the programs run_map, run_utf8 and run_cells, with answers that are computed here in another
+way: the map as a list of states, UTF-8 by Python's strict decoder, cells as named tuples that are laid out anew for each
+answer. Run at the root of the repository."""
 import itertools
 
 
@@ -66,9 +67,100 @@ def is_scalar(n):
         return 0
 
 
+KINDS = ["undefined", "nil", "eof", "void", "bool", "char", "number", "string", "symbol", "pair", "vector"]
+BIG = 2**64 - 1
+
+
+def cell_cases():
+    """Every kind, known or not, with small and largest fields, at the first and the last slot and between; lookups below
+    and past the capacity in every state; every kind of element; texts and blocks up to the rooms' ends."""
+    for kind in range(16):
+        for slot, a, b in (0, 1, 2), (3, BIG, BIG), (1, 0, 0), (2, 1, BIG):
+            yield "c", slot, kind, a, b
+    for capacity in 0, 3, 4:
+        yield "h", 1, 0, capacity, 0
+        for state in 0, 1, 2, 3:
+            for slot in range(4):
+                yield "m", slot, state, 0, 0
+                yield "l", slot, 0, 0, 0
+            yield "l", 4, 0, 0, 0
+            yield "l", 255, 0, 0, 0
+    for kind in range(16):
+        for at, a in (0, 1), (3, BIG), (1, 0), (2, 2):
+            yield "e", at, kind, a, 0
+    for n in 0, 1, 0, 7, 9, 8, 0, 1:
+        yield "a", n, 0, 0x6162636465666768 + n, 0
+    for place, size in (0, 0), (0, 1), (0, 16), (1, 7), (15, 1), (15, 0), (16, 0), (16, 1), (0, 17), (BIG, 1), (1, BIG):
+        yield "t", 0, 0, place, size
+    for n in 0, 1, 0, 4, 3, 0, 1:
+        yield "r", n, 0, 0, 0
+
+
+def line_of(case):
+    return "%s %02x %x %016x %016x" % case
+
+
+def three(kind, a=0, b=0):
+    """A cell or value by name, as what is kept of it."""
+    if kind == "bool":
+        return kind, int(a == 1), 0
+    if kind in ("char", "number", "slot"):
+        return kind, a, 0
+    if kind in ("string", "symbol", "pair", "vector"):
+        return kind, a, b
+    return kind, 0, 0
+
+
+def numbered(cell):
+    return [15 if cell[0] == "slot" else KINDS.index(cell[0]), *cell[1:]]
+
+
+def cell_answers():
+    header = [0] * 8
+    cells, states, elements = [three("undefined")] * 4, [0] * 4, [three("undefined")] * 4
+    arena = b""
+    for case in cell_cases():
+        op, x, kind, a, b = case
+        out = []
+        if op == "c":
+            new = three(KINDS[kind] if kind < 11 else "undefined", a, b)
+            out = numbered(cells[x]) + numbered(new)
+            cells[x] = new
+        elif op == "e":
+            new = three(KINDS[kind] if kind < 7 else "slot" if kind == 15 else "undefined", a)
+            out = numbered(elements[x]) + numbered(new)
+            elements[x] = new
+        elif op == "h":
+            header[x] = a
+        elif op == "m":
+            states[x] = kind
+        elif op == "l":
+            out = numbered(cells[x]) if x < header[1] and states[x] == 1 else ["not in use"]
+        elif op == "t":
+            out = list(arena.ljust(16, b"\0")[a : a + b]) if a + b <= 16 else []
+        elif op == "a":
+            text = line_of(case)[7 : 7 + x].encode()
+            if len(arena + text) > 16:
+                out = ["no room"]
+            else:
+                out = [len(arena) if text else 0]
+                arena += text
+        elif op == "r":
+            if header[5] + x > 4:
+                out = ["no room"]
+            else:
+                out = [header[5] if x else 0]
+                header[5] += x
+        header[4] = len(arena)
+        rows = [word for cell in cells for word in numbered(cell) + [0] * 5]
+        laid = [word for element in elements for word in numbered(element)]
+        yield " ".join(map(str, [*out, "|", *header, *rows, *arena.ljust(16, b"\0"), *laid])) + " "
+
+
 store("run_map", ["%d %d" % case for case in map_cases()], list(map_answers()))
 store(
     "run_utf8",
     [case.hex() for case in utf8_cases()] + ["u%08x" % n for n in POINTS],
     [str(is_utf8(case)) for case in utf8_cases()] + [str(is_scalar(n)) for n in POINTS],
 )
+store("run_cells", [line_of(case) for case in cell_cases()], list(cell_answers()))

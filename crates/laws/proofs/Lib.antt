@@ -6,3 +6,5 @@ pub mod Sums
 pub mod Stores
 pub mod Zeros
 pub mod Pointwise
+pub mod Sorting
+pub mod Finding

@@ -2,12 +2,12 @@
 -- Assumes nothing.
 use mathlib.Core.Path.{_≡_, refl, sym, ap, _∙_}
 use mathlib.Core.List.{List, [], _∷_, _++_, append-assoc}
-use Prim.Native.Nat.{ℕ, zero, suc, _+_, _-_, _*_, _≤_, _<_}
+use Prim.Native.Nat.{ℕ, zero, suc, _+_, _≤_, _<_}
 use native.Mathlib.Omega.{arith}
-use lib.ListN.{length, getD, set, length-append, length-set, List·getD-append}
-use lib.Seq.{sets, getD-set-same, getD-set-other, set-append-seam, getD-append-add}
+use lib.ListN.{length, getD, set, length-append, length-set}
+use lib.Seq.{sets, getD-set-same, getD-set-other, set-append-seam}
 use Rattle.laws.specs.Basics.{zeros, basics}
-use Rattle.laws.proofs.Lists.{length-zeros, getD-zeros}
+use Rattle.laws.proofs.Lists.{getD-zeros}
 
 -- ---- by index
 

@@ -1,11 +1,12 @@
 -- Zeros after zeros, and rising numbers from their other end. Assumes nothing.
-use mathlib.Core.Path.{_≡_, refl, sym, ap, _∙_}
-use mathlib.Core.Bool.{Bool, true, false}
-use mathlib.Core.List.{List, [], _∷_, _++_, reverse, reverse-cons, append-assoc}
-use Prim.Native.Nat.{ℕ, zero, suc, _+_, _≤_, _<_}
+use mathlib.Core.Path.{_≡_, refl, ap, _∙_}
+use mathlib.Core.Bool.{true}
+use mathlib.Core.List.{List, [], _∷_, _++_, reverse}
+use Prim.Native.Nat.{ℕ, zero, suc, _+_, _≤_}
 use native.Mathlib.Omega.{arith}
 use borrow.Author.Tests.{lt-ltb}
 use lib.Dec.{ltb}
+use lib.ListN.{take}
 use Rattle.laws.specs.Basics.{every, rising, zeros, basics}
 use Rattle.laws.proofs.Tests.{both-true}
 
@@ -13,6 +14,12 @@ pub zeros-append : (a b : ℕ) → zeros a ++ zeros b ≡ zeros (a + b)
 unfolding basics
 zeros-append zero b = let e : b ≡ 0 + b = omega arith in ap zeros e
 zeros-append (suc a) b = let e : suc (a + b) ≡ suc a + b = omega arith in ap (λ (l : List ℕ). 0 ∷ l) (zeros-append a b) ∙ ap zeros e
+
+pub take-zeros : (n m : ℕ) → n ≤ m → take n (zeros m) ≡ zeros n
+unfolding basics
+take-zeros zero m h = refl
+take-zeros (suc n) zero h = absurd (omega arith)
+take-zeros (suc n) (suc m) h = ap (λ (l : List ℕ). 0 ∷ l) (take-zeros n m (omega arith))
 
 pub rising-last : (a n : ℕ) → rising a (suc n) ≡ rising a n ++ ((a + n) ∷ [])
 unfolding basics
@@ -32,3 +39,8 @@ unfolding basics
 falling-below a zero b h = refl
 falling-below a (suc n) b h =
     ap (every (λ s. ltb s b)) (falling a n) ∙ both-true (lt-ltb (a + n) b (omega arith)) (falling-below a n b (omega arith))
+
+pub rising-below : (a n b : ℕ) → a + n ≤ b → every (λ s. ltb s b) (rising a n) ≡ true
+unfolding basics
+rising-below a zero b h = refl
+rising-below a (suc n) b h = both-true (lt-ltb a b (omega arith)) (rising-below (suc a) n b (omega arith))

@@ -3,7 +3,7 @@
 use mathlib.Core.Path.{_≡_, refl, sym, ap, _∙_, subst}
 use mathlib.Core.Bool.{Bool, true, false}
 use mathlib.Core.List.{List, [], _∷_, _++_, reverse, append-assoc}
-use mathlib.Core.Option.{Option, none, some}
+use mathlib.Core.Option.{none, some}
 use Prim.Native.Nat.{ℕ, zero, suc, _+_, _-_, _*_, _/_, _%_, _≤_, _<_}
 use native.Mathlib.Omega.{arith}
 use native.Mathlib.Decide.{ℕ-discrete, decLt}
@@ -17,7 +17,7 @@ use Rattle.laws.proofs.Lists.{length-zeros, getD-rows}
 use Rattle.laws.proofs.Stores.{sets-other, sets-in, sets-middle, zeros-add, getD-before-zeros}
 use Rattle.rules.specs.Map.{Allocated, state-in, is-allocated, map-rules}
 use Rattle.rules.specs.Cells.{undefined, Value, scalar, Block, Cell, plain}
-use Rattle.rules.specs.Heap.{Heap, capacity, cell-at, in-use, part-of, text-of, block-after, with-cell, with-element, with-bytes, with-elements}
+use Rattle.rules.specs.Heap.{Heap, capacity, cell-at, in-use, part-of, text-of, block-after, with-cell, with-bytes, with-elements}
 use Rattle.rules.specs.Layout.{cell-words, value-words, cell-from, value-from, header-words, entry-at, row-words, words-of, filled, layout-rules}
 use Rattle.rules.proofs.LentLaws.{cell-width, value-width, cell-again, value-again, words-length, word-at, cell-word, words-again, elements-length}
 use Rattle.leaf_cells.specs.Words.{stored}

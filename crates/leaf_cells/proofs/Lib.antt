@@ -1,3 +1,5 @@
 pub mod KindLaws
 pub mod RoomLaws
 pub mod HeapLaws
+pub mod CallLaws
+pub mod Determined

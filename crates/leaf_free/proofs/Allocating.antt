@@ -1,29 +1,29 @@
 -- Allocating: a heap that can grow or has a free slot gives one by the code as by the rules, takes one slot of those that
 -- can still be taken, and stays such a heap. Document 01, "Slots and growth", and No. 16. Assumes nothing.
 use mathlib.Core.Path.{_≡_, refl, sym, ap, _∙_, subst}
-use mathlib.Core.Bool.{Bool, true, false}
+use mathlib.Core.Bool.{true}
 use mathlib.Core.List.{List, [], _∷_, _++_, reverse, append-nil}
-use Prim.Native.Nat.{ℕ, zero, suc, _+_, _-_, _*_, _/_, _%_, _≤_, _<_}
-use native.Mathlib.Nat.{mul-assoc, mul-left-comm, mul-comm}
+use Prim.Native.Nat.{ℕ, suc, _+_, _-_, _*_, _/_, _%_, _≤_, _<_}
+use native.Mathlib.Nat.{mul-left-comm}
 use native.Mathlib.Omega.{arith}
 use native.Mathlib.Decide.{decLe}
 use borrow.Author.Tests.{ltb-true, eqb-true}
 use lib.Dec.{eqb, ltb}
-use lib.ListN.{length, getD, set, replicate, length-append, length-reverse, length-replicate}
-use Rattle.laws.specs.Basics.{both, every, rising, zeros, basics}
-use Rattle.laws.proofs.Tests.{both-left, both-right, both-true}
+use lib.ListN.{length, length-append, length-reverse, length-replicate}
+use Rattle.laws.specs.Basics.{every, rising, zeros, basics}
+use Rattle.laws.proofs.Tests.{both-left, both-right}
 use Rattle.laws.proofs.Lists.{length-zeros, length-rising}
 use Rattle.laws.proofs.Zeros.{falling, falling-below}
 use Rattle.rules.specs.Map.{set-state, state-of, Allocated, Free}
-use Rattle.rules.specs.Cells.{Cell, plain, undefined}
-use Rattle.rules.specs.Heap.{Heap, Given, capacity, free-count, used-count, grown, fitting, most-growths, grow, pop, alloc, heap-rules}
+use Rattle.rules.specs.Cells.{plain, undefined}
+use Rattle.rules.specs.Heap.{Heap, Given, capacity, free-count, used-count, fitting, most-growths, grow, pop, alloc}
 use Rattle.rules.specs.Layout.{words-of, map-bytes, filled}
 use Rattle.rules.proofs.LentLaws.{words-length, filled-length}
 use Rattle.rules.proofs.TwoBits.{set-state-length, state-past}
-use Rattle.leaf_free.specs.FreeList.{chunk-of, capacity-of, count-of, goal-of, place, pushed, grown-words, popped, top, ready, CanGrow, CanPop, CanAlloc, Popped}
-use Rattle.leaf_free.proofs.Growth.{more, Whole, grown-whole, no-less, positive-chunks, rises, fitting-on, fitting-end, fitting-grown, fitting-least}
+use Rattle.leaf_free.specs.FreeList.{count-of, grown-words, popped, top, ready, CanGrow, CanPop, CanAlloc, Popped}
+use Rattle.leaf_free.proofs.Growth.{Whole, grown-whole, rises, fitting-end, fitting-grown, fitting-least}
 use Rattle.leaf_free.proofs.Steps.{ready-empty, ready-already}
-use Rattle.leaf_free.proofs.FreeWords.{with-free, goal, chunk-word, capacity-word, count-word, goal-word, grow-words, top-word, pop-words}
+use Rattle.leaf_free.proofs.FreeWords.{goal, chunk-word, capacity-word, count-word, goal-word, grow-words, top-word, pop-words}
 use Rattle.leaf_free.proofs.FreeMap.{filled-zeros, filled-state}
 
 -- a heap within the lent slots that growth came to, with a free list of slots below its capacity
@@ -73,6 +73,11 @@ fours chunk size f w =
     let e : size ≡ 4 * (w .chunks * q) = w .is ∙ ap (λ (n : ℕ). w .chunks * n) c ∙ mul-left-comm (w .chunks) 4 q in
     omega arith
 
+-- the lent map holds the heap's
+pub lent-map-length : (slots : ℕ) (h : Heap) → Growing slots h → length (filled (map-bytes slots) (h .map)) ≡ map-bytes slots
+unfolding map-bytes
+lent-map-length slots h g = filled-length ((slots + 3) / 4) (h .map) (omega (arith, g .map-size, g .within))
+
 -- ---- growth
 
 module _ (slots : ℕ) (h : Heap) (g : Growing slots h) where
@@ -83,9 +88,9 @@ module _ (slots : ℕ) (h : Heap) (g : Growing slots h) where
   pub goal-above : capacity h < goal h
   goal-above = rises (h .chunk) (capacity h) positive (g .some) (g .whole)
 
-  capacity-grown : capacity (grow h) ≡ goal h
+  pub grown-size : capacity (grow h) ≡ goal h
   unfolding grow
-  capacity-grown =
+  grown-size =
       length-append (h .cells) _
       ∙ (let e : capacity h + (goal h - capacity h) ≡ goal h = omega (arith, goal-above) in
       ap (λ (n : ℕ). capacity h + n) (length-replicate (goal h - capacity h) (plain undefined)) ∙ e)
@@ -112,7 +117,7 @@ module _ (slots : ℕ) (h : Heap) (g : Growing slots h) where
     abbrev new : ℕ
     new = goal h - capacity h
 
-    grown-free : grow h .free ≡ reverse (rising (capacity h) new)
+    pub grown-free : grow h .free ≡ reverse (rising (capacity h) new)
     unfolding grow
     grown-free = ap (λ (l : List ℕ). reverse (rising (capacity h) new) ++ l) none ∙ append-nil (reverse (rising (capacity h) new))
 
@@ -127,17 +132,17 @@ module _ (slots : ℕ) (h : Heap) (g : Growing slots h) where
           chunk-least = g .chunk-least;
           chunk-fours = g .chunk-fours;
           chunk-within = g .chunk-within;
-          whole = subst (λ (n : ℕ). Whole (h .chunk) n) (sym capacity-grown) (grown-whole (h .chunk) (capacity h));
-          some = omega (arith, capacity-grown, goal-above);
-          within = omega (arith, capacity-grown);
+          whole = subst (λ (n : ℕ). Whole (h .chunk) n) (sym grown-size) (grown-whole (h .chunk) (capacity h));
+          some = omega (arith, grown-size, goal-above);
+          within = omega (arith, grown-size);
           map-size =
               length-append (h .map) (zeros (new / 4))
               ∙ (let e : length (h .map) + new / 4 ≡ goal h / 4 = omega (arith, g .map-size, goal-above, new-fours, capacity-fours) in
-              ap (λ (n : ℕ). length (h .map) + n) (length-zeros (new / 4)) ∙ e ∙ ap (λ (n : ℕ). n / 4) (sym capacity-grown));
-          free-size = omega (arith, grown-count, capacity-grown);
+              ap (λ (n : ℕ). length (h .map) + n) (length-zeros (new / 4)) ∙ e ∙ ap (λ (n : ℕ). n / 4) (sym grown-size));
+          free-size = omega (arith, grown-count, grown-size);
           free-below =
               ap (every (λ s. ltb s (capacity (grow h)))) grown-free
-              ∙ falling-below (capacity h) new (capacity (grow h)) (omega (arith, capacity-grown, goal-above));
+              ∙ falling-below (capacity h) new (capacity (grow h)) (omega (arith, grown-size, goal-above));
         }
 
     -- the highest new slot is the next
@@ -205,12 +210,8 @@ module _ (slots : ℕ) (h : Heap) (g : Growing slots h) (t : Next h) where
   rest-size : length (h .free) ≡ suc (length (t .rest))
   rest-size = ap length (t .is)
 
-  next-in-map : t .slot / 4 < length (h .map)
+  pub next-in-map : t .slot / 4 < length (h .map)
   next-in-map = omega (arith, g .map-size, next-below, capacity-fours slots h g)
-
-  pub map-length : length (filled (map-bytes slots) (h .map)) ≡ map-bytes slots
-  unfolding map-bytes
-  map-length = filled-length ((slots + 3) / 4) (h .map) (omega (arith, g .map-size, g .within))
 
   pub can-pop : CanPop (words-of slots h) (filled (map-bytes slots) (h .map))
   unfolding map-bytes
@@ -218,7 +219,7 @@ module _ (slots : ℕ) (h : Heap) (g : Growing slots h) (t : Next h) where
       record {
         some = omega (arith, count-word slots h, rest-size);
         row = omega (arith, count-word slots h, rest-size, listed, words-length slots h);
-        state = omega (arith, top-word slots h (t .slot) (t .rest) (t .is) listed, map-length, next-below, g .within);
+        state = omega (arith, top-word slots h (t .slot) (t .rest) (t .is) listed, lent-map-length slots h g, next-below, g .within);
       }
 
   pub pop-given : (ws map : List ℕ) (slot : ℕ) (ws' map' : List ℕ) → ws ≡ words-of slots h → map ≡ filled (map-bytes slots) (h .map) → Popped ws map slot ws' map' → Given-by slots (pop h) slot ws' map'
@@ -342,7 +343,7 @@ module _ (slots : ℕ) (h : Heap) (g : Growing slots h) (room : Room slots h) wh
   -- growing uses no slot
   grow-used : h .free ≡ [] → used-count (grow h) ≡ used-count h
   grow-used none =
-      omega (arith, capacity-grown slots h g, grown-count slots h g none (room none), goal-above slots h g, ap length none)
+      omega (arith, grown-size slots h g, grown-count slots h g none (room none), goal-above slots h g, ap length none)
 
   pub alloc-used : used-count (alloc h .heap) ≡ used-count h + 1
   alloc-used =
@@ -359,7 +360,7 @@ module _ (slots : ℕ) (h : Heap) (g : Growing slots h) (room : Room slots h) wh
   unfolding grow
   grow-available none =
       let same : fitting most-growths (h .chunk) slots (capacity (grow h)) ≡ fitting most-growths (h .chunk) slots (capacity h) =
-      ap (fitting most-growths (h .chunk) slots) (capacity-grown slots h g)
+      ap (fitting most-growths (h .chunk) slots) (grown-size slots h g)
       ∙ fitting-grown (h .chunk) slots (capacity h) (g .chunk-least) (g .slots-small) (g .some) (g .whole) (room none)
       in
       let least : capacity (grow h) ≤ fitting most-growths (h .chunk) slots (capacity (grow h)) =
@@ -369,7 +370,7 @@ module _ (slots : ℕ) (h : Heap) (g : Growing slots h) (room : Room slots h) wh
       omega (
         arith,
         grown-count slots h g none (room none),
-        capacity-grown slots h g,
+        grown-size slots h g,
         goal-above slots h g,
         ap length none,
       )

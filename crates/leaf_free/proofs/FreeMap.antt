@@ -1,8 +1,8 @@
 -- The lent map beside the free list: past the capacity it is zero, so growth changes no byte of it, and a slot's state is
 -- stored in the lent map as in the heap's. Assumes nothing.
-use mathlib.Core.Path.{_≡_, refl, sym, ap, _∙_}
+use mathlib.Core.Path.{_≡_, sym, ap, _∙_}
 use mathlib.Core.List.{List, _++_, append-assoc}
-use Prim.Native.Nat.{ℕ, _+_, _-_, _*_, _/_, _%_, _≤_, _<_}
+use Prim.Native.Nat.{ℕ, _+_, _-_, _/_, _%_, _≤_, _<_}
 use native.Mathlib.Omega.{arith}
 use lib.ListN.{length, getD, set, length-append, length-set, List·getD-append}
 use lib.Seq.{set-append-left}
@@ -10,8 +10,7 @@ use Rattle.laws.specs.Basics.{zeros}
 use Rattle.laws.proofs.Lists.{length-zeros}
 use Rattle.laws.proofs.Zeros.{zeros-append}
 use Rattle.rules.specs.Map.{with-state, set-state}
-use Rattle.rules.specs.Heap.{Heap, capacity, grow}
-use Rattle.rules.specs.Layout.{map-bytes, filled}
+use Rattle.rules.specs.Layout.{filled}
 
 -- zeros that the list itself ends in
 pub filled-zeros : (room : ℕ) (l : List ℕ) (k : ℕ) → length l + k ≤ room → filled room (l ++ zeros k) ≡ filled room l

@@ -1,19 +1,17 @@
 -- The free list's steps on the lent words are the rules' steps on the heap: push, grow and pop. Assumes nothing.
-use mathlib.Core.Path.{_≡_, refl, sym, ap, _∙_, subst}
-use mathlib.Core.Bool.{Bool, true, false}
-use mathlib.Core.List.{List, [], _∷_, _++_, reverse, reverse-cons, append-assoc, append-nil}
-use Prim.Native.Nat.{ℕ, zero, suc, _+_, _-_, _*_, _/_, _≤_, _<_}
+use mathlib.Core.Path.{_≡_, refl, sym, ap, _∙_}
+use mathlib.Core.List.{List, [], _∷_, _++_, reverse, reverse-cons, append-assoc}
+use Prim.Native.Nat.{ℕ, zero, suc, _+_, _-_, _*_, _≤_, _<_}
 use native.Mathlib.Omega.{arith}
-use native.Mathlib.Decide.{ℕ-discrete, decLt}
-use lib.ListN.{length, getD, set, replicate, length-append, length-reverse, length-replicate, List·getD-append, List·getD-eq-default, getD-replicate}
-use lib.Seq.{getD-append-seam, getD-append-add}
-use Rattle.laws.specs.Basics.{rising, zeros, basics}
-use Rattle.laws.proofs.Lists.{length-rising}
+use native.Mathlib.Decide.{ℕ-discrete}
+use lib.ListN.{length, getD, set, replicate, length-append, length-reverse, length-replicate, List·getD-eq-default}
+use lib.Seq.{getD-append-seam}
+use Rattle.laws.specs.Basics.{rising, basics}
 use Rattle.rules.specs.Cells.{Cell, plain, undefined}
-use Rattle.rules.specs.Heap.{Heap, capacity, cell-at, grown, grow, heap-rules}
-use Rattle.rules.specs.Layout.{header-words, row-words, words-of, cell-words, entry-at, layout-rules}
+use Rattle.rules.specs.Heap.{Heap, capacity, cell-at, grown, grow}
+use Rattle.rules.specs.Layout.{header-words, words-of, cell-words, entry-at, layout-rules}
 use Rattle.rules.proofs.LentLaws.{cell-width, column-word}
-use Rattle.leaf_free.specs.FreeList.{chunk-of, capacity-of, count-of, goal-of, place, pushed, joined, grown-words, popped, top, ready, free-list}
+use Rattle.leaf_free.specs.FreeList.{chunk-of, capacity-of, count-of, goal-of, place, pushed, joined, grown-words, popped, top}
 use Rattle.leaf_free.proofs.Written.{Written, heads-of, rows-of, written, written-again, head-stored, row-stored, rows-renamed}
 
 -- the heap with another free list
@@ -134,7 +132,7 @@ more-slots h n =
       elements = h .elements;
     }
 
-same-cells : (n : ℕ) (l : List Cell) (i : ℕ) → getD (l ++ replicate n (plain undefined)) i (plain undefined) ≡ getD l i (plain undefined)
+pub same-cells : (n : ℕ) (l : List Cell) (i : ℕ) → getD (l ++ replicate n (plain undefined)) i (plain undefined) ≡ getD l i (plain undefined)
 same-cells zero [] i = refl
 same-cells (suc n) [] zero = refl
 same-cells (suc n) [] (suc i) = same-cells n [] i

@@ -2,14 +2,16 @@
 -- Document 01, "n chunks grow to n × 3/2 rounded up". Assumes nothing.
 use mathlib.Core.Path.{_≡_, refl, sym, ap, _∙_, subst}
 use mathlib.Core.Bool.{Bool, true, false}
-use Prim.Native.Nat.{ℕ, zero, suc, _+_, _-_, _*_, _/_, _%_, _≤_, _<_}
-use native.Mathlib.Nat.{le-trans, mul-lt-mul-of-pos-right, mul-div-cancel, mul-le-mul, mul-le-mul-right, div-le-self, mul-assoc, mul-left-comm}
+use mathlib.Core.Logic.{⊎-elim}
+use Prim.Native.Nat.{ℕ, zero, suc, _+_, _-_, _*_, _/_, _≤_, _<_}
+use native.Mathlib.Nat.{le-trans, mul-lt-mul-of-pos-right, mul-div-cancel, mul-le-mul, mul-le-mul-right, div-le-self}
 use native.Mathlib.Omega.{arith}
 use native.Mathlib.Decide.{decLe, decLt}
-use borrow.Author.Tests.{le-leb, lt-leb, eq-eqb, ne-eqb}
-use lib.Dec.{eqb, leb}
+use borrow.Author.Tests.{le-leb, lt-leb, eqb-true, eq-eqb, ne-eqb}
+use lib.Dec.{eqb}
 use Rattle.laws.specs.Basics.{either}
-use Rattle.rules.specs.Heap.{grown, fitting, reaches, most-growths, heap-rules}
+use Rattle.laws.proofs.Tests.{either-cases, either-right}
+use Rattle.rules.specs.Heap.{grown, fitting, reaches, most-growths}
 
 -- ---- one step
 
@@ -197,3 +199,43 @@ fitting-most (suc n) chunk lent size h =
       | yes l ↦ omega (arith, fitting-on chunk lent size n l, fitting-most n chunk lent (grown chunk size) l)
       | no l ↦ omega (arith, fitting-end chunk lent size (suc n) (omega arith))
     ]
+
+either-none : (b : Bool) → either b false ≡ b
+either-none true = refl
+either-none false = refl
+
+-- ---- "growth reaches the capacity" after growing too
+
+reaches-more : (n chunk goal size : ℕ) → reaches n chunk goal size ≡ true → reaches (suc n) chunk (grown chunk goal) size ≡ true
+unfolding reaches
+reaches-more zero chunk goal size e =
+    either-right (eqb size (grown chunk goal))
+    (eq-eqb (grown chunk size) (grown chunk goal) (ap (grown chunk) (eqb-true size goal e)))
+reaches-more (suc n) chunk goal size e =
+    either-right (eqb size (grown chunk goal))
+    (⊎-elim
+    (λ here. reaches-here chunk (grown chunk goal) (suc n) (grown chunk size) (ap (grown chunk) (eqb-true size goal here)))
+    (λ later. reaches-more n chunk goal (grown chunk size) later) (either-cases (eqb size goal) _ e))
+
+-- where one step more passes the goal, it changes nothing
+reaches-enough : (chunk goal : ℕ) → 0 < chunk → (n k : ℕ) → goal < steps (suc n) k * chunk → reaches (suc n) chunk goal (k * chunk) ≡ reaches n chunk goal (k * chunk)
+unfolding reaches steps
+reaches-enough chunk goal p zero k h =
+    ap (either (eqb (k * chunk) goal)) (ne-eqb (grown chunk (k * chunk)) goal (λ e. omega (arith, grown-chunks chunk k p)))
+    ∙ either-none (eqb (k * chunk) goal)
+reaches-enough chunk goal p (suc n) k h =
+    ap (either (eqb (k * chunk) goal))
+    (subst (λ (size : ℕ). reaches (suc n) chunk goal size ≡ reaches n chunk goal size) (sym (grown-chunks chunk k p))
+    (reaches-enough chunk goal p n (more k) h))
+
+all-pass : 1025 ≤ steps 33 1
+unfolding steps
+all-pass = omega arith
+
+pub reaches-grown : (chunk size : ℕ) → 4 ≤ chunk → grown chunk size ≤ 4096 → reaches most-growths chunk size chunk ≡ true → reaches most-growths chunk (grown chunk size) chunk ≡ true
+reaches-grown chunk size c small e =
+    let one : 1 * chunk ≡ chunk = omega arith in
+    let long : 1025 * 4 ≤ steps 33 1 * chunk = mul-le-mul all-pass c in
+    sym (subst (λ (n : ℕ). reaches 33 chunk (grown chunk size) n ≡ reaches 32 chunk (grown chunk size) n) one
+    (reaches-enough chunk (grown chunk size) (omega arith) 32 1 (omega arith)))
+    ∙ reaches-more 32 chunk size chunk e

@@ -8,7 +8,7 @@ use borrow.Author.Tests.{eq-eqb, ne-eqb}
 use lib.ListN.{length, getD, set, length-set}
 use lib.Seq.{getD-set-same, getD-set-other}
 use Rattle.rules.specs.Map.{set-state, Allocated}
-use Rattle.leaf_free.specs.FreeList.{chunk-of, capacity-of, count-of, goal-of, place, pushed, joined, grown-words, popped, top, ready, CanGrow, CanPop, Popped, free-list}
+use Rattle.leaf_free.specs.FreeList.{capacity-of, count-of, goal-of, place, pushed, joined, grown-words, fallen, fresh-words, popped, ready, CanStart, CanGrow, CanPop, Popped}
 
 -- ---- push
 
@@ -80,6 +80,63 @@ joining-ends ws₀ ws size goal s j h = sym (joined-done ws s goal h) ∙ j .res
 pub grows : (ws : List ℕ) (goal : ℕ) → goal ≡ goal-of ws → joined (set ws 1 goal) (capacity-of ws) (goal - capacity-of ws) ≡ grown-words ws
 unfolding grown-words
 grows ws goal e = λ i. joined (set ws 1 (e i)) (capacity-of ws) (e i - capacity-of ws)
+
+-- ---- a fresh list
+
+pub length-fallen : (n : ℕ) (ws : List ℕ) → length (fallen ws n) ≡ length ws
+unfolding fallen
+length-fallen zero ws = refl
+length-fallen (suc n) ws = length-fallen n (pushed ws n) ∙ length-pushed ws n
+
+pub length-fresh : (ws : List ℕ) (chunk : ℕ) → length (fresh-words ws chunk) ≡ length ws
+unfolding fresh-words
+length-fresh ws chunk = length-fallen chunk (set (set (set ws 0 chunk) 1 chunk) 6 1) ∙ simp length-set
+
+-- its loop: what is left to push, and a row for each of its places
+pub record Falling (ws₀ : List ℕ) (chunk : ℕ) (ws : List ℕ) (s : ℕ) : Type 0 where
+  pub same-size : length ws ≡ length ws₀
+  pub header : 3 ≤ length ws
+  pub rows : 8 + 8 * (count-of ws + s) ≤ length ws
+  pub rest : fallen ws s ≡ fallen ws₀ chunk
+
+abbrev headed : List ℕ → ℕ → List ℕ
+headed ws chunk = set (set (set ws 0 chunk) 1 chunk) 6 1
+
+pub headed-length : (ws : List ℕ) (chunk : ℕ) → length (headed ws chunk) ≡ length ws
+headed-length ws chunk = simp length-set
+
+headed-count : (ws : List ℕ) (chunk : ℕ) → count-of (headed ws chunk) ≡ count-of ws
+headed-count ws chunk =
+    getD-set-other (set (set ws 0 chunk) 1 chunk) 6 2 1 0 (λ e. omega arith)
+    ∙ getD-set-other (set ws 0 chunk) 1 2 chunk 0 (λ e. omega arith) ∙ getD-set-other ws 0 2 chunk 0 (λ e. omega arith)
+
+pub falls : (ws : List ℕ) (chunk : ℕ) → CanStart ws chunk → Falling (headed ws chunk) chunk (headed ws chunk) chunk
+falls ws chunk p =
+    let size = headed-length ws chunk in
+    let count = headed-count ws chunk in
+    let long = p .header in
+    let rows = p .rows in
+    record { same-size = refl; header = omega arith; rows = omega arith; rest = refl }
+
+pub falls-on : (ws₀ : List ℕ) (chunk : ℕ) (ws : List ℕ) (s : ℕ) (ws' : List ℕ) → Falling ws₀ chunk ws s → 0 < s → ws' ≡ pushed ws (s - 1) → Falling ws₀ chunk ws' (s - 1)
+unfolding fallen
+falls-on ws₀ chunk ws s ws' f h e =
+    let same : length ws' ≡ length ws = ap length e ∙ length-pushed ws (s - 1) in
+    let one : count-of ws' ≡ count-of ws + 1 = ap count-of e ∙ count-pushed ws (s - 1) (f .header) in
+    let a = f .same-size in
+    let b = f .header in
+    let r = f .rows in
+    let up : suc (s - 1) ≡ s = omega arith in
+    record {
+      same-size = same ∙ a;
+      header = omega arith;
+      rows = omega arith;
+      rest = (λ i. fallen (e i) (s - 1)) ∙ (λ i. fallen ws (up i)) ∙ f .rest;
+    }
+
+pub falls-ends : (ws ws' : List ℕ) (chunk s : ℕ) → Falling (headed ws chunk) chunk ws' s → s ≡ 0 → ws' ≡ fresh-words ws chunk
+unfolding fresh-words fallen
+falls-ends ws ws' chunk s f e = (λ i. fallen ws' (sym e i)) ∙ f .rest
 
 -- ---- pop
 

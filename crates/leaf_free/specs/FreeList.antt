@@ -1,6 +1,6 @@
 -- The free list in the lent words: the number of its places in word 2, place i in column 4 of row i, the next slot at the
 -- highest place in use. What each step stores there. Document 01, "Slots and growth". Assumes nothing.
-use mathlib.Core.Bool.{Bool, true, false}
+use mathlib.Core.Bool.{true, false}
 use mathlib.Core.Path.{_≡_}
 use mathlib.Core.List.{List}
 use Prim.Native.Nat.{ℕ, zero, suc, _+_, _-_, _*_, _/_, _<_, _≤_}
@@ -42,6 +42,17 @@ unfoldable pub grown-words : List ℕ → List ℕ
 unfolding joined
 grown-words ws = joined (set ws 1 (goal-of ws)) (capacity-of ws) (goal-of ws - capacity-of ws)
 
+-- the slots below n, in falling order
+unfoldable pub fallen : List ℕ → ℕ → List ℕ
+unfolding pushed
+fallen ws zero = ws
+fallen ws (suc n) = fallen (pushed ws n) n
+
+-- "Fresh: the first slot given is 0, then 1": one chunk, growth on
+unfoldable pub fresh-words : List ℕ → ℕ → List ℕ
+unfolding fallen
+fresh-words ws chunk = fallen (set (set (set ws 0 chunk) 1 chunk) 6 1) chunk
+
 -- the next slot
 abbrev pub top : List ℕ → ℕ
 top ws = getD ws (place (count-of ws - 1)) 0
@@ -65,6 +76,11 @@ pub record CanGrow (ws : List ℕ) : Type 0 where
   pub capacity-small : capacity-of ws ≤ 4096
   pub rows : 8 + 8 * (count-of ws + (goal-of ws - capacity-of ws)) ≤ length ws
 
+-- a fresh list: a row for each slot of the first chunk
+pub record CanStart (ws : List ℕ) (chunk : ℕ) : Type 0 where
+  pub header : 8 ≤ length ws
+  pub rows : 8 + 8 * (count-of ws + chunk) ≤ length ws
+
 -- taking a slot off: there is one, its place is in the words, and its state in the map
 pub record CanPop (ws map : List ℕ) : Type 0 where
   pub some : 0 < count-of ws
@@ -83,5 +99,5 @@ pub record Popped (ws map : List ℕ) (slot : ℕ) (ws' map' : List ℕ) : Type 
   pub map-left : map' ≡ set-state map (top ws) Allocated
 
 unfoldable pub free-list : Unit {0}
-unfolding pushed joined grown-words popped ready
+unfolding pushed joined grown-words fallen fresh-words popped ready
 free-list = tt

@@ -6,7 +6,7 @@ ghost use mathlib.Core.Path.{_≡_};
 ghost use Prim.Native.Nat.{_^_, _<_, _≤_};
 ghost use lib.ListN.{length};
 ghost use Rattle.rules.specs.Heap.{grown, fitting, reaches, most-growths};
-ghost use Rattle.leaf_free.specs.FreeList.{count-of, place, pushed, grown-words, ready, CanGrow, CanPop, CanAlloc, Popped};
+ghost use Rattle.leaf_free.specs.FreeList.{count-of, place, pushed, fresh-words, grown-words, ready, CanStart, CanGrow, CanPop, CanAlloc, Popped};
 
 // Words of the header.
 const CHUNK: usize = 0;
@@ -14,6 +14,8 @@ const CHUNK: usize = 0;
 const CAPACITY: usize = 1;
 
 const FREE_COUNT: usize = 2;
+
+const GROWTH: usize = 6;
 
 // No size up to 4,096 grows in more steps.
 const MOST_GROWTHS: usize = 32;
@@ -87,6 +89,21 @@ pub fn push(words: &mut [u64], slot: usize)
     words[FREE_COUNT] = (count + 1) as u64;
 }
 
+// "Fresh: the first slot given is 0, then 1": the header and the list of a heap of one chunk, in words that were zero.
+pub fn fresh(words: &mut [u64], chunk: usize)
+    requires { ⌜ CanStart (now words) chunk ⌝ }
+    ensures { λ _. ⌜ now (words .exit) ≡ fresh-words (now (words .entry)) chunk ⌝ }
+{
+    words[CHUNK] = chunk as u64;
+    words[CAPACITY] = chunk as u64;
+    words[GROWTH] = 1;
+    let mut s = chunk;
+    while 0 < s {
+        s -= 1;
+        push(words, s);
+    }
+}
+
 // "the new slots join in rising order, so the highest is given first". Whether the grown size fits is asked before.
 pub fn grow(words: &mut [u64])
     requires { ⌜ CanGrow (now words) ⌝ }
@@ -107,11 +124,12 @@ pub fn pop(words: &mut [u64], map: &mut [u8]) -> usize
     requires { ⌜ CanPop (now words) (now map) ⌝ }
     ensures { λ r. ⌜ Popped (now (words .entry)) (now (map .entry)) r (now (words .exit)) (now (map .exit)) ⌝ }
 {
-    let count = words[FREE_COUNT] as usize - 1;
-    let at = place(count);
+    let count = words[FREE_COUNT] as usize;
+    let last = count - 1;
+    let at = place(last);
     let slot = words[at] as usize;
     words[at] = 0;
-    words[FREE_COUNT] = count as u64;
+    words[FREE_COUNT] = last as u64;
     leaf_map::set(map, slot, leaf_map::ALLOCATED);
     slot
 }

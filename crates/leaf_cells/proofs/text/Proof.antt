@@ -1,9 +1,5 @@
 -- `leaf_cells::text`: the part from the place to the end. Assumes nothing.
 use Rattle.leaf_cells.proofs.RoomLaws.{part-end}
-use native.Mathlib.Omega.{arith}
-use lib.ListN.{take, drop}
-use Prim.Native.Nat.{ℕ}
-use mathlib.Core.Path.{ap}
 use borrow.Author.Needs.{needs}
 use Rattle.leaf_cells.proofs.text.Statement.{statement}
 use Rattle.leaf_cells.proofs.text.Tie as tie

@@ -1,7 +1,6 @@
 -- `leaf_free::grow`: what is joined and what is left to join make the whole. Assumes nothing.
 use mathlib.Core.Path.{_∙_}
 use Prim.Native.Nat.{_-_}
-use native.Mathlib.Omega.{arith}
 use lib.ListN.{length-set}
 use Rattle.leaf_free.proofs.Steps.{Joining, joining, joining-on, joining-ends, grows}
 use borrow.Author.Needs.{needs}

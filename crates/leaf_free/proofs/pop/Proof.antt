@@ -10,8 +10,8 @@ use Rattle.leaf_free.proofs.pop.Tie as tie
 slice-read-count : tie.Need-slice-read-count
 slice-read-count c = search needs
 
-sub-count : tie.Need-sub-count
-sub-count c = search needs
+sub-last : tie.Need-sub-last
+sub-last c = search needs
 
 place-requires : tie.Need-place-requires
 place-requires c κs = search needs
@@ -48,7 +48,7 @@ pop-spec =
     tie.close
     (tie.spec
     slice-read-count
-    sub-count
+    sub-last
     place-requires
     mul-slot
     slice-read-slot

@@ -1,0 +1,28 @@
+// The steps that a put is made of (heap.rs, put): a new cell, a string, a symbol found or made. Each is the rules' step on
+// the lent lists. Document 01, "Slots and growth".
+use leaf_cells::VCell;
+ghost use mathlib.Core.Path.{_≡_};
+ghost use Prim.Native.Nat.{ℕ};
+ghost use Rattle.rules.specs.Heap.{Heap};
+ghost use Rattle.leaf_cells.specs.Cells.{cell-of};
+ghost use Rattle.heap_steps.specs.Steps.{Open, CellMade, TextOpen, StringPut};
+
+// A new slot with this cell in it.
+pub fn new_cell(words: &mut [u64], map: &mut [u8], c: VCell) -> usize
+    requires { ⌜ ((n : ℕ) × (h : Heap) × Open n h (now words) (now map)) ⌝ }
+    ensures { λ s. ⌜ ((n : ℕ) (h : Heap) → Open n h (now (words .entry)) (now (map .entry)) → CellMade n h (cell-of c) s (now (words .exit)) (now (map .exit))) ⌝ }
+{
+    let s = leaf_free::alloc(words, map);
+    leaf_cells::store(words, s, c);
+    s
+}
+
+// A new string: its bytes at the end of the room in use, then a slot that shows them.
+pub fn put_string(words: &mut [u64], map: &mut [u8], bytes: &mut [u8], text: &[u8]) -> usize
+    requires { ⌜ ((n : ℕ) × (room : ℕ) × (h : Heap) × TextOpen n room h (now text) (now words) (now map) (now bytes)) ⌝ }
+    ensures { λ s. ⌜ ((n room : ℕ) (h : Heap) → TextOpen n room h (now (text .entry)) (now (words .entry)) (now (map .entry)) (now (bytes .entry)) → StringPut n room h (now (text .entry)) s (now (words .exit)) (now (map .exit)) (now (bytes .exit))) ⌝ }
+{
+    let size = text.len();
+    let place = leaf_cells::append_text(words, bytes, text);
+    new_cell(words, map, VCell::String(place, size))
+}

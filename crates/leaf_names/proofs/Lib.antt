@@ -1,0 +1,4 @@
+pub mod Ordered
+pub mod Turns
+pub mod Sunken
+pub mod Keyed
