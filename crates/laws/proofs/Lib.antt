@@ -5,3 +5,4 @@ pub mod Below
 pub mod Sums
 pub mod Stores
 pub mod Zeros
+pub mod Members

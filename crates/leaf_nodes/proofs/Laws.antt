@@ -2,33 +2,30 @@
 use mathlib.Core.Path.{_≡_, refl, sym, ap, _∙_, subst}
 use mathlib.Core.Bool.{Bool, true, false}
 use mathlib.Core.List.{List, [], _∷_, _++_}
-use mathlib.Core.Logic.{_⊎_, inl, inr, ⊎-elim}
 use Prim.Native.Nat.{ℕ, zero, suc, _+_, _-_, _*_, _^_, _≤_, _<_}
 use native.Mathlib.Omega.{arith}
-use borrow.Author.Tests.{lt-ltb, le-ltb, eq-eqb, ne-eqb}
-use lib.Dec.{eqb, ltb}
+use borrow.Author.Tests.{lt-ltb, le-ltb, ne-eqb}
 use lib.ListN.{length, getD, take, drop, length-drop, length-append, List·getD-eq-default}
-use lib.Seq.{drop-drop, drop-cons, getD-drop, length-take-le}
+use lib.Seq.{drop-drop, getD-drop, length-take-le}
 use Rattle.laws.specs.Basics.{choose, every, big, basics}
 use Rattle.laws.proofs.Tests.{true≢false, both-true}
-use Rattle.rules.specs.Refusals as refusals
-use Rattle.rules.specs.Refusals.{cut-short, bad-bool, bad-char, bad-utf8, unknown-kind}
+use Rattle.rules.specs.Refusals.{cut-short, bad-bool, bad-char, unknown-kind}
 use Rattle.rules.specs.Utf8.{utf8, scalar-value, utf8-rules}
 use Rattle.rules.specs.Cells.{bool, char, scalar}
-use Rattle.rules.specs.Nodes.{plain, ref, atom, pair, vector, def, Reading, reads, faulty, part, field, checked-text, text, bool-node, char-node, kinds, read-node, write-node, node-fits, bytes, nodes-rules}
+use Rattle.rules.specs.Nodes.{plain, ref, atom, Reading, reads, faulty, part, field, checked-text, text, bool-node, char-node, kinds, read-node, write-node, node-fits, bytes, nodes-rules}
 use Rattle.rules.specs.Nodes as rules
 use Rattle.rules.proofs.Nodes.{choose-true, choose-false, was-written, write-positive}
 use Rattle.leaf_cells.specs.declared.Value.{Value}
 use Rattle.leaf_cells.specs.declared.Value.the-variants as value
 use Rattle.leaf_cells.specs.Elements.{value-of}
 use Rattle.leaf_nodes.specs.declared.Fault.{Fault}
-use Rattle.leaf_nodes.specs.declared.Fault.the-variants.{CutShort, BadBool, BadUtf8, UnknownKind}
+use Rattle.leaf_nodes.specs.declared.Fault.the-variants.{CutShort, BadUtf8}
 use Rattle.leaf_nodes.specs.declared.Node.{Node}
 use Rattle.leaf_nodes.specs.declared.Node.the-variants.{Faulty, Plain, String, Symbol, Ident, Ref, Pair, Vector, Def}
 use Rattle.leaf_nodes.specs.declared.Read.{Read}
 use Rattle.leaf_nodes.specs.declared.Text.{Text}
 use Rattle.leaf_nodes.specs.declared.Text.the-variants.{Bad, Good}
-use Rattle.leaf_nodes.specs.Reads.{Number, fault-of, scalar-of, is-scalar, shown, text-length, text-of, as-read, in-order, Shows, ReadAs, of-field, text-reading, TextRead, text-size, ident-node, reads-rules}
+use Rattle.leaf_nodes.specs.Reads.{Number, fault-of, scalar-of, is-scalar, shown, text-length, text-of, as-read, in-order, Shows, ReadAs, of-field, text-reading, TextRead, text-size, reads-rules}
 
 -- ---- numbers
 

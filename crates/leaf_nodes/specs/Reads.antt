@@ -5,10 +5,10 @@ use mathlib.Core.List.{List, []}
 use Prim.Native.Nat.{ℕ, _+_, _-_, _^_, _≤_, _<_}
 use lib.Dec.{eqb}
 use lib.ListN.{length, take, drop}
-use Rattle.laws.specs.Basics.{choose, every, big}
+use Rattle.laws.specs.Basics.{choose, big}
 use Rattle.rules.specs.Cells.{Scalar, undefined, nil, eof, void, bool, char, number}
 use Rattle.rules.specs.Refusals as rules
-use Rattle.rules.specs.Nodes.{Atom, plain, string, symbol, ident, ref, atom, pair, vector, def, Reading, reads, faulty, bool-node, char-node, text, read-node, bytes}
+use Rattle.rules.specs.Nodes.{plain, string, symbol, ident, ref, atom, pair, vector, def, Reading, reads, faulty, bool-node, char-node, text, read-node, bytes}
 use Rattle.rules.specs.Nodes as rules-nodes
 use Rattle.leaf_cells.specs.declared.Value.{Value}
 use Rattle.leaf_cells.specs.declared.Value.the-variants as value
