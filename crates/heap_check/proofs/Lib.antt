@@ -1,3 +1,4 @@
 pub mod TallyLaws
 pub mod PassLaws
 pub mod StepLaws
+pub mod Answers

@@ -22,7 +22,7 @@ use Rattle.leaf_nodes.specs.declared.Node as leaf
 use Rattle.leaf_nodes.specs.declared.Node.the-variants as leaf-node
 use Rattle.leaf_nodes.specs.declared.Read.{Read}
 use Rattle.leaf_nodes.specs.Reads.{fault-of, shown, text-of, as-read, ReadAs, reads-rules}
-use Rattle.leaf_nodes.proofs.Laws.{Node-at, node-at, text-long, good-node, all-small}
+use Rattle.leaf_nodes.proofs.Laws.{Node-at, node-at, as-shown, text-long, good-node, all-small}
 use Rattle.heap_check.specs.declared.Tally as code
 use Rattle.heap_check.specs.declared.Checked.{Checked}
 use Rattle.heap_check.specs.declared.Checked.the-variants.{Malformed}
@@ -146,13 +146,11 @@ ends-well t (b ∷ bs) h = absurd (omega arith)
 
 module _ (bs : List ℕ) (at w : ℕ) (t : Tally) (r : Read) (a : ReadAs (drop at bs) r) (h : 0 < w) (whole : verdict bs ≡ pass t w (drop at bs)) where
   pub stops : (f : Fault) → r .node ≡ leaf-node.Faulty f → checked-of (Malformed f (t .nodes)) ≡ verdict bs
-  unfolding reads-rules
   stops f e =
       sym
       (whole
       ∙ faults t w (drop at bs) (fault-of f) h
-      (sym (a .shows .is)
-      ∙ ap (λ (x : leaf.Node). shown x (text-of (drop at bs) x (r .size)) (drop (r .size) (drop at bs))) e))
+      (sym (a .shows .is) ∙ as-shown (drop at bs) r (leaf-node.Faulty f) e))
 
   module _ (good : (f : Fault) → r .node ≡ leaf-node.Faulty f → ⊥) where
     found : (n : Node) × (as-read (drop at bs) r ≡ reads n (drop (r .size) (drop at bs)))

@@ -270,6 +270,11 @@ node-at bs r n a e =
       left = w .left;
     }
 
+-- what is read where the case is known
+pub as-shown : (bs : List ℕ) (r : Read) (x : Node) → r .node ≡ x → as-read bs r ≡ shown x (text-of bs x (r .size)) (drop (r .size) bs)
+unfolding reads-rules
+as-shown bs r x e = ap (λ (x : Node). shown x (text-of bs x (r .size)) (drop (r .size) bs)) e
+
 -- a text's length is the node's
 pub text-long : (bs : List ℕ) (r : Read) → ReadAs bs r → length (text-of bs (r .node) (r .size)) ≡ text-length (r .node)
 unfolding reads-rules

@@ -11,10 +11,17 @@ add-u : tie.Need-add-u
 add-u c = search needs
 
 returns : tie.Need-returns
-returns c = count-told (c .before .before .args .t) (c .before .before .args .within) true (c .before .before .pre .0) (sym (ap (λ (b : Bool). either b (c .before .before .args .t .over)) (c .if1 .taken)))
+returns c =
+    let args = c .before .before .args in
+    let pre = c .before .before .pre in
+    count-told (args .t) (args .within) true (pre .0) (sym (ap (λ (b : Bool). either b (args .t .over)) (c .if1 .taken)))
 
 returns-2 : tie.Need-returns-2
-returns-2 c = count-told (c .before .before .args .t) (c .before .before .args .within) (c .before .before .args .t .over) (c .before .before .pre .0) (sym (ap (λ (b : Bool). either b (c .before .before .args .t .over)) (c .if1 .left)))
+returns-2 c =
+    let args = c .before .before .args in
+    let pre = c .before .before .pre in
+    count-told (args .t) (args .within) (args .t .over) (pre .0)
+    (sym (ap (λ (b : Bool). either b (args .t .over)) (c .if1 .left)))
 
 pub count-spec : {M : Type 1} → statement M
 count-spec = tie.close (tie.spec add-u returns returns-2)

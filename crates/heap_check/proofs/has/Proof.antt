@@ -25,7 +25,11 @@ element-copy-out-if1 : tie.Need-element-copy-out-if1 Inv-loop μ-loop
 element-copy-out-if1 c = search needs
 
 returns : tie.Need-returns Inv-loop μ-loop
-returns c = sym (c .before .before .before .loop .inv .1 ∙ label-found (c .before .before .before .before .args .label) (c .before .before .before .before .args .t1) (c .before .before .before .before .pre) (c .before .before .before .loop .i) (omega arith) (c .if1 .taken))
+returns c =
+    let turn = c .before .before .before .loop in
+    let args = c .before .before .before .before .args in
+    let pre = c .before .before .before .before .pre in
+    sym (turn .inv .1 ∙ label-found (args .label) (args .t1) (pre) (turn .i) (omega arith) (c .if1 .taken))
 
 add-i : tie.Need-add-i Inv-loop μ-loop
 add-i c = search needs
@@ -34,10 +38,18 @@ loop-less : tie.Need-loop-less Inv-loop μ-loop
 loop-less c = search needs
 
 loop-again : tie.Need-loop-again Inv-loop μ-loop
-loop-again c = (omega arith, c .before .before .before .loop .inv .1 ∙ label-not-here (c .before .before .before .before .args .label) (c .before .before .before .before .args .t1) (c .before .before .before .before .pre) (c .before .before .before .loop .i) (omega arith) (c .if1 .left))
+loop-again c =
+    let turn = c .before .before .before .loop in
+    let args = c .before .before .before .before .args in
+    let pre = c .before .before .before .before .pre in
+    (omega arith, turn .inv .1 ∙ label-not-here (args .label) (args .t1) (pre) (turn .i) (omega arith) (c .if1 .left))
 
 returns-2 : tie.Need-returns-2 Inv-loop μ-loop
-returns-2 c = sym (c .before .loop .inv .1 ∙ label-nowhere (c .before .before .args .label) (c .before .before .args .t1) (c .before .before .pre) (c .before .loop .i) (omega arith))
+returns-2 c =
+    let turn = c .before .loop in
+    let args = c .before .before .args in
+    let pre = c .before .before .pre in
+    sym (turn .inv .1 ∙ label-nowhere (args .label) (args .t1) (pre) (turn .i) (omega arith))
 
 pub has-spec : {M : Type 1} → statement M
 has-spec =

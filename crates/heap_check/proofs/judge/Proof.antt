@@ -13,15 +13,23 @@ returns c = judged-many (tally-of (c .before .before .args .t)) (omega arith)
 
 returns-2 : tie.Need-returns-2
 unfolding limits
-returns-2 c = judged-rest (tally-of (c .before .before .before .args .t)) true (c .before .before .before .args .t .early) (omega arith) (c .if2 .taken) refl
+returns-2 c =
+    let args = c .before .before .before .args in
+    judged-rest (tally-of (args .t)) true (args .t .early) (omega arith) (c .if2 .taken) refl
 
 returns-3 : tie.Need-returns-3
 unfolding limits
-returns-3 c = judged-rest (tally-of (c .before .before .before .before .args .t)) false true (omega arith) (c .before .if2 .left) (c .if3 .taken)
+returns-3 c =
+    let if2 = c .before .if2 in
+    let args = c .before .before .before .before .args in
+    judged-rest (tally-of (args .t)) false true (omega arith) (if2 .left) (c .if3 .taken)
 
 returns-4 : tie.Need-returns-4
 unfolding limits
-returns-4 c = judged-rest (tally-of (c .before .before .before .before .args .t)) false false (omega arith) (c .before .if2 .left) (c .if3 .left)
+returns-4 c =
+    let if2 = c .before .if2 in
+    let args = c .before .before .before .before .args in
+    judged-rest (tally-of (args .t)) false false (omega arith) (if2 .left) (c .if3 .left)
 
 pub judge-spec : {M : Type 1} → statement M
 judge-spec = tie.close (tie.spec returns returns-2 returns-3 returns-4)

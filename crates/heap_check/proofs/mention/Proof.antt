@@ -11,10 +11,19 @@ has-requires : tie.Need-has-requires
 has-requires c κs = search needs
 
 returns : tie.Need-returns
-returns c = mention-known (c .before .before .args .t) (c .before .before .pre) (c .before .before .args .refers) (c .before .before .args .label) (sym (c .before .has .ensures) ∙ c .if1 .taken)
+returns c =
+    let has = c .before .has in
+    let args = c .before .before .args in
+    let pre = c .before .before .pre in
+    mention-known (args .t) (pre) (args .refers) (args .label) (sym (has .ensures) ∙ c .if1 .taken)
 
 returns-2 : tie.Need-returns-2
-returns-2 c = mention-full (c .before .before .before .args .t) (c .before .before .before .pre) (c .before .before .before .args .refers) (c .before .before .before .args .label) (sym (c .before .before .has .ensures) ∙ c .before .if1 .left) (c .if2 .taken)
+returns-2 c =
+    let if1 = c .before .if1 in
+    let has = c .before .before .has in
+    let args = c .before .before .before .args in
+    let pre = c .before .before .before .pre in
+    mention-full (args .t) (pre) (args .refers) (args .label) (sym (has .ensures) ∙ if1 .left) (c .if2 .taken)
 
 mul-u : tie.Need-mul-u
 mul-u c = search needs
@@ -26,10 +35,24 @@ add-u : tie.Need-add-u
 add-u c = search needs
 
 returns-3 : tie.Need-returns-3
-returns-3 c = mention-new (c .before .before .before .before .args .t) (c .before .before .before .before .pre) (c .before .before .before .before .args .refers) (c .before .before .before .before .args .label) (sym (c .before .before .before .has .ensures) ∙ c .before .before .if1 .left) true (c .before .if2 .left) (ap (λ (b : Bool). either b (c .before .before .before .before .args .t .early)) (sym (c .if3 .taken)))
+returns-3 c =
+    let if2 = c .before .if2 in
+    let if1 = c .before .before .if1 in
+    let has = c .before .before .before .has in
+    let args = c .before .before .before .before .args in
+    let pre = c .before .before .before .before .pre in
+    mention-new (args .t) (pre) (args .refers) (args .label) (sym (has .ensures) ∙ if1 .left) true (if2 .left)
+    (ap (λ (b : Bool). either b (args .t .early)) (sym (c .if3 .taken)))
 
 returns-4 : tie.Need-returns-4
-returns-4 c = mention-new (c .before .before .before .before .args .t) (c .before .before .before .before .pre) (c .before .before .before .before .args .refers) (c .before .before .before .before .args .label) (sym (c .before .before .before .has .ensures) ∙ c .before .before .if1 .left) (c .before .before .before .before .args .t .early) (c .before .if2 .left) (ap (λ (b : Bool). either b (c .before .before .before .before .args .t .early)) (sym (c .if3 .left)))
+returns-4 c =
+    let if2 = c .before .if2 in
+    let if1 = c .before .before .if1 in
+    let has = c .before .before .before .has in
+    let args = c .before .before .before .before .args in
+    let pre = c .before .before .before .before .pre in
+    mention-new (args .t) (pre) (args .refers) (args .label) (sym (has .ensures) ∙ if1 .left) (args .t .early) (if2 .left)
+    (ap (λ (b : Bool). either b (args .t .early)) (sym (c .if3 .left)))
 
 pub mention-spec : {M : Type 1} → statement M
 mention-spec =

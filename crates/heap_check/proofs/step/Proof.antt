@@ -46,31 +46,71 @@ mention-requires-2 : tie.Need-mention-requires-2
 mention-requires-2 c κs = search needs
 
 returns : tie.Need-returns
-returns c = λ n s. as-step (tally-of (c .before .before .before .before .args .t)) (c .before .before .before .within .result) n (c .enum-told .given .1) s (c .before .before .before .within .ensures n s) (c .before .before .count .ensures)
+returns c =
+    let counting = c .before .before .count in
+    let test = c .before .before .before .within in
+    let args = c .before .before .before .before .args in
+    λ n s. as-step (tally-of (args .t)) (test .result) n (c .enum-told .given .1) s (test .ensures n s) (counting .ensures)
 
 returns-2 : tie.Need-returns-2
-returns-2 c = λ n s. as-step (tally-of (c .before .before .before .before .args .t)) (c .before .before .before .within .result) n (c .enum-told2 .given .1) s (c .before .before .before .within .ensures n s) (c .before .before .count .ensures)
+returns-2 c =
+    let counting = c .before .before .count in
+    let test = c .before .before .before .within in
+    let args = c .before .before .before .before .args in
+    λ n s. as-step (tally-of (args .t)) (test .result) n (c .enum-told2 .given .1) s (test .ensures n s) (counting .ensures)
 
 returns-3 : tie.Need-returns-3
-returns-3 c = λ n s. as-step (tally-of (c .before .before .before .before .args .t)) (c .before .before .before .within .result) n (c .enum-told3 .given .1) s (c .before .before .before .within .ensures n s) (c .before .before .count .ensures)
+returns-3 c =
+    let counting = c .before .before .count in
+    let test = c .before .before .before .within in
+    let args = c .before .before .before .before .args in
+    λ n s. as-step (tally-of (args .t)) (test .result) n (c .enum-told3 .given .1) s (test .ensures n s) (counting .ensures)
 
 returns-4 : tie.Need-returns-4
-returns-4 c = λ n s. as-step (tally-of (c .before .before .before .before .args .t)) (c .before .before .before .within .result) n (c .enum-told4 .given .1) s (c .before .before .before .within .ensures n s) (c .before .before .count .ensures)
+returns-4 c =
+    let counting = c .before .before .count in
+    let test = c .before .before .before .within in
+    let args = c .before .before .before .before .args in
+    λ n s. as-step (tally-of (args .t)) (test .result) n (c .enum-told4 .given .1) s (test .ensures n s) (counting .ensures)
 
 returns-5 : tie.Need-returns-5
-returns-5 c = λ n s. as-step (tally-of (c .before .before .before .before .args .t)) (c .before .before .before .within .result) n (c .enum-told5 .given .1) s (c .before .before .before .within .ensures n s) (c .before .before .count .ensures)
+returns-5 c =
+    let counting = c .before .before .count in
+    let test = c .before .before .before .within in
+    let args = c .before .before .before .before .args in
+    λ n s. as-step (tally-of (args .t)) (test .result) n (c .enum-told5 .given .1) s (test .ensures n s) (counting .ensures)
 
 returns-6 : tie.Need-returns-6
-returns-6 c = λ n s. as-step (tally-of (c .before .before .before .before .before .before .args .t)) (c .before .before .before .before .before .within .result) n (c .before .before .node .given .1) s (c .before .before .before .before .before .within .ensures n s) (as-mention true (c .before .before .node .given .0 .0) (c .before .before .before .before .count .ensures) (c .mention .ensures))
+returns-6 c =
+    let got = c .before .before .node in
+    let counting = c .before .before .before .before .count in
+    let test = c .before .before .before .before .before .within in
+    let args = c .before .before .before .before .before .before .args in
+    λ n s. as-step (tally-of (args .t)) (test .result) n (got .given .1) s (test .ensures n s)
+    (as-mention true (got .given .0 .0) (counting .ensures) (c .mention .ensures))
 
 returns-7 : tie.Need-returns-7
-returns-7 c = λ n s. as-step (tally-of (c .before .before .before .before .args .t)) (c .before .before .before .within .result) n (c .enum-told6 .given .1) s (c .before .before .before .within .ensures n s) (c .before .before .count .ensures)
+returns-7 c =
+    let counting = c .before .before .count in
+    let test = c .before .before .before .within in
+    let args = c .before .before .before .before .args in
+    λ n s. as-step (tally-of (args .t)) (test .result) n (c .enum-told6 .given .1) s (test .ensures n s) (counting .ensures)
 
 returns-8 : tie.Need-returns-8
-returns-8 c = λ n s. as-step (tally-of (c .before .before .before .before .args .t)) (c .before .before .before .within .result) n (c .enum-told7 .given .1) s (c .before .before .before .within .ensures n s) (c .before .before .count .ensures)
+returns-8 c =
+    let counting = c .before .before .count in
+    let test = c .before .before .before .within in
+    let args = c .before .before .before .before .args in
+    λ n s. as-step (tally-of (args .t)) (test .result) n (c .enum-told7 .given .1) s (test .ensures n s) (counting .ensures)
 
 returns-9 : tie.Need-returns-9
-returns-9 c = λ n s. as-step (tally-of (c .before .before .before .before .before .before .args .t)) (c .before .before .before .before .before .within .result) n (c .before .before .node2 .given .1) s (c .before .before .before .before .before .within .ensures n s) (as-mention false (c .before .before .node2 .given .0 .0) (c .before .before .before .before .count .ensures) (c .mention2 .ensures))
+returns-9 c =
+    let got2 = c .before .before .node2 in
+    let counting = c .before .before .before .before .count in
+    let test = c .before .before .before .before .before .within in
+    let args = c .before .before .before .before .before .before .args in
+    λ n s. as-step (tally-of (args .t)) (test .result) n (got2 .given .1) s (test .ensures n s)
+    (as-mention false (got2 .given .0 .0) (counting .ensures) (c .mention2 .ensures))
 
 pub step-spec : {M : Type 1} → statement M
 step-spec =

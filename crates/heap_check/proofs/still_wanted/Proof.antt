@@ -19,10 +19,14 @@ returns : tie.Need-returns
 returns c = past-left (c .before .args .left) (c .before .args .more + c .before .args .others) (omega arith)
 
 returns-2 : tie.Need-returns-2
-returns-2 c = past-left (c .before .before .args .left) (c .before .before .args .more + c .before .before .args .others) (omega arith)
+returns-2 c =
+    let args = c .before .before .args in
+    past-left (args .left) (args .more + args .others) (omega arith)
 
 returns-3 : tie.Need-returns-3
-returns-3 c = in-left (c .before .before .args .left) (c .before .before .args .more + c .before .before .args .others) (omega arith)
+returns-3 c =
+    let args = c .before .before .args in
+    in-left (args .left) (args .more + args .others) (omega arith)
 
 pub still-wanted-spec : {M : Type 1} → statement M
 still-wanted-spec =

@@ -21,13 +21,21 @@ faulty-requires : tie.Need-faulty-requires
 faulty-requires c κs = search needs
 
 returns : tie.Need-returns
-returns c = λ bs h. shows-node (node.Plain (value.Bool false)) 5 (c .sized .ensures) (bool-is false (c .before .before .args .n) (drop 5 bs) (omega arith)) refl h (omega arith)
+returns c =
+    let args = c .before .before .args in
+    λ bs h. shows-node (node.Plain (value.Bool false)) 5 (c .sized .ensures) (bool-is false (args .n) (drop 5 bs) (omega arith))
+    refl h (omega arith)
 
 returns-2 : tie.Need-returns-2
-returns-2 c = λ bs h. shows-node (node.Plain (value.Bool true)) 5 (c .sized2 .ensures) (bool-is true (c .before .before .before .args .n) (drop 5 bs) (omega arith)) refl h (omega arith)
+returns-2 c =
+    let args = c .before .before .before .args in
+    λ bs h. shows-node (node.Plain (value.Bool true)) 5 (c .sized2 .ensures) (bool-is true (args .n) (drop 5 bs) (omega arith))
+    refl h (omega arith)
 
 returns-3 : tie.Need-returns-3
-returns-3 c = λ bs h. shows-fault fault.BadBool (c .faulty .ensures) (bool-bad (c .before .before .before .args .n) (drop 5 bs) (omega arith))
+returns-3 c =
+    let args = c .before .before .before .args in
+    λ bs h. shows-fault fault.BadBool (c .faulty .ensures) (bool-bad (args .n) (drop 5 bs) (omega arith))
 
 pub bool-read-spec : {M : Type 1} → statement M
 bool-read-spec =

@@ -20,10 +20,20 @@ faulty-requires : tie.Need-faulty-requires
 faulty-requires c κs = search needs
 
 returns : tie.Need-returns
-returns c = λ bs h. shows-node (node.Plain (value.Char (c .before .before .before .args .n))) 5 (c .sized .ensures) (char-is (c .before .before .before .args .n) (drop 5 bs) (sym (c .before .before .is-scalar-value .ensures) ∙ c .before .if1 .taken)) refl h (omega arith)
+returns c =
+    let if1 = c .before .if1 in
+    let is-scalar-value = c .before .before .is-scalar-value in
+    let args = c .before .before .before .args in
+    λ bs h. shows-node (node.Plain (value.Char (args .n))) 5 (c .sized .ensures)
+    (char-is (args .n) (drop 5 bs) (sym (is-scalar-value .ensures) ∙ if1 .taken)) refl h (omega arith)
 
 returns-2 : tie.Need-returns-2
-returns-2 c = λ bs h. shows-fault fault.BadChar (c .faulty .ensures) (char-bad (c .before .before .before .args .n) (drop 5 bs) (sym (c .before .before .is-scalar-value .ensures) ∙ c .before .if1 .left))
+returns-2 c =
+    let if1 = c .before .if1 in
+    let is-scalar-value = c .before .before .is-scalar-value in
+    let args = c .before .before .before .args in
+    λ bs h. shows-fault fault.BadChar (c .faulty .ensures)
+    (char-bad (args .n) (drop 5 bs) (sym (is-scalar-value .ensures) ∙ if1 .left))
 
 pub char-read-spec : {M : Type 1} → statement M
 char-read-spec =

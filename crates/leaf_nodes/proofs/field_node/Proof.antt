@@ -26,23 +26,42 @@ sized-requires-3 c κs = search needs
 
 returns : tie.Need-returns
 unfolding reads-rules
-returns c = λ bs h. shows-same (field-case (c .before .before .args .n) (drop 5 bs) 4 (c .before .before .args .kind) (c .before .match .keys1)) (c .bool-read .ensures bs h)
+returns c =
+    let keys = c .before .match in
+    let args = c .before .before .args in
+    λ bs h. shows-same (field-case (args .n) (drop 5 bs) 4 (args .kind) (keys .keys1)) (c .bool-read .ensures bs h)
 
 returns-2 : tie.Need-returns-2
 unfolding reads-rules
-returns-2 c = λ bs h. shows-same (field-case (c .before .before .args .n) (drop 5 bs) 5 (c .before .before .args .kind) (c .before .match .keys2)) (c .char-read .ensures bs h)
+returns-2 c =
+    let keys = c .before .match in
+    let args = c .before .before .args in
+    λ bs h. shows-same (field-case (args .n) (drop 5 bs) 5 (args .kind) (keys .keys2)) (c .char-read .ensures bs h)
 
 returns-3 : tie.Need-returns-3
 unfolding reads-rules
-returns-3 c = λ bs h. shows-node (node.Vector (c .before .before .args .n)) 5 (c .sized .ensures) (field-case (c .before .before .args .n) (drop 5 bs) 10 (c .before .before .args .kind) (c .before .match .keys3)) refl h (omega arith)
+returns-3 c =
+    let keys = c .before .match in
+    let args = c .before .before .args in
+    λ bs h. shows-node (node.Vector (args .n)) 5 (c .sized .ensures)
+    (field-case (args .n) (drop 5 bs) 10 (args .kind) (keys .keys3)) refl h (omega arith)
 
 returns-4 : tie.Need-returns-4
 unfolding reads-rules
-returns-4 c = λ bs h. shows-node (node.Def (c .before .before .args .n)) 5 (c .sized2 .ensures) (field-case (c .before .before .args .n) (drop 5 bs) 12 (c .before .before .args .kind) (c .before .match .keys4)) refl h (omega arith)
+returns-4 c =
+    let keys = c .before .match in
+    let args = c .before .before .args in
+    λ bs h. shows-node (node.Def (args .n)) 5 (c .sized2 .ensures)
+    (field-case (args .n) (drop 5 bs) 12 (args .kind) (keys .keys4)) refl h (omega arith)
 
 returns-5 : tie.Need-returns-5
 unfolding reads-rules
-returns-5 c = λ bs h. shows-node (node.Ref (c .before .before .args .n)) 5 (c .sized3 .ensures) (ref-case (c .before .before .args .n) (drop 5 bs) (c .before .before .args .kind) (c .before .match .rest .0 .0 .0 .1) (c .before .match .rest .0 .0 .1) (c .before .match .rest .0 .1) (c .before .match .rest .1)) refl h (omega arith)
+returns-5 c =
+    let keys = c .before .match in
+    let args = c .before .before .args in
+    λ bs h. shows-node (node.Ref (args .n)) 5 (c .sized3 .ensures)
+    (ref-case (args .n) (drop 5 bs) (args .kind) (keys .rest .0 .0 .0 .1) (keys .rest .0 .0 .1) (keys .rest .0 .1)
+    (keys .rest .1)) refl h (omega arith)
 
 pub field-node-spec : {M : Type 1} → statement M
 field-node-spec =

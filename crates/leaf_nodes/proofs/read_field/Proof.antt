@@ -11,7 +11,10 @@ faulty-requires : tie.Need-faulty-requires
 faulty-requires c κs = search needs
 
 returns : tie.Need-returns
-returns c = shows-fault fault.CutShort (c .faulty .ensures) (field-short 4 (of-field (c .before .before .before .args .kind)) (c .before .before .before .args .datum .now) (omega arith) (c .before .before .before .pre))
+returns c =
+    let args = c .before .before .before .args in
+    let pre = c .before .before .before .pre in
+    shows-fault fault.CutShort (c .faulty .ensures) (field-short 4 (of-field (args .kind)) (args .datum .now) (omega arith) (pre))
 
 u32-at-requires : tie.Need-u32-at-requires
 u32-at-requires c κs = search needs
@@ -20,7 +23,11 @@ field-node-requires : tie.Need-field-node-requires
 field-node-requires c κs = search needs
 
 returns-2 : tie.Need-returns-2
-returns-2 c = shows-same (field-behind 4 (of-field (c .before .before .before .before .args .kind)) (c .before .before .before .before .args .datum .now) (c .before .u32-at .result) (omega arith) (c .before .u32-at .ensures)) (c .field-node .ensures (c .before .before .before .before .args .datum .now) (omega arith))
+returns-2 c =
+    let u32-at = c .before .u32-at in
+    let args = c .before .before .before .before .args in
+    shows-same (field-behind 4 (of-field (args .kind)) (args .datum .now) (u32-at .result) (omega arith) (u32-at .ensures))
+    (c .field-node .ensures (args .datum .now) (omega arith))
 
 pub read-field-spec : {M : Type 1} → statement M
 read-field-spec =

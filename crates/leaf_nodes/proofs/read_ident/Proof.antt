@@ -15,7 +15,11 @@ faulty-requires : tie.Need-faulty-requires
 faulty-requires c κs = search needs
 
 returns : tie.Need-returns
-returns c = shows-fault fault.CutShort (c .faulty .ensures) (field-short 4 (λ s. text (ident-node s)) (c .before .before .before .args .datum .now) (omega arith) (c .before .before .before .pre))
+returns c =
+    let args = c .before .before .before .args in
+    let pre = c .before .before .before .pre in
+    shows-fault fault.CutShort (c .faulty .ensures)
+    (field-short 4 (λ s. text (ident-node s)) (args .datum .now) (omega arith) (pre))
 
 u32-at-requires : tie.Need-u32-at-requires
 u32-at-requires c κs = search needs
@@ -33,16 +37,35 @@ enum-known-t-2 : tie.Need-enum-known-t-2
 enum-known-t-2 c = search needs
 
 add-sized : tie.Need-add-sized
-add-sized c = omega (arith, text-inside (c .before .before .before .before .before .before .before .args .datum .now) 5 (c .before .before .before .text-at .ensures) (c .before .t2 .given .0 .0) (c .before .t2 .given .1) (omega arith))
+add-sized c =
+    let txt2 = c .before .t2 in
+    let text-at = c .before .before .before .text-at in
+    let args = c .before .before .before .before .before .before .before .args in
+    omega (arith, text-inside (args .datum .now) 5 (text-at .ensures) (txt2 .given .0 .0) (txt2 .given .1) (omega arith))
 
 sized-requires : tie.Need-sized-requires
 sized-requires c κs = search needs
 
 returns-2 : tie.Need-returns-2
-returns-2 c = shows-fault (c .before .before .t .given .0 .0) (c .faulty2 .ensures) (text-fault (c .before .before .before .before .before .before .before .before .args .datum .now) 5 (c .before .before .before .before .text-at .ensures) (c .before .before .t .given .0 .0) (ident-node (c .before .before .before .before .before .u32-at .result)) (c .before .before .t .given .1) ∙ field-behind 4 (λ s. text (ident-node s)) (c .before .before .before .before .before .before .before .before .args .datum .now) (c .before .before .before .before .before .u32-at .result) (omega arith) (c .before .before .before .before .before .u32-at .ensures))
+returns-2 c =
+    let txt = c .before .before .t in
+    let text-at = c .before .before .before .before .text-at in
+    let u32-at = c .before .before .before .before .before .u32-at in
+    let args = c .before .before .before .before .before .before .before .before .args in
+    shows-fault (txt .given .0 .0) (c .faulty2 .ensures)
+    (text-fault (args .datum .now) 5 (text-at .ensures) (txt .given .0 .0) (ident-node (u32-at .result)) (txt .given .1) ∙
+    field-behind 4 (λ s. text (ident-node s)) (args .datum .now) (u32-at .result) (omega arith) (u32-at .ensures))
 
 returns-3 : tie.Need-returns-3
-returns-3 c = shows-node (node.Ident (c .before .before .before .before .before .u32-at .result) (c .before .before .t2 .given .0 .0)) (c .before .before .t2 .given .0 .0 + 9) (c .sized .ensures) (text-shown (c .before .before .before .before .before .before .before .before .args .datum .now) 5 (c .before .before .before .before .text-at .ensures) (c .before .before .t2 .given .0 .0) (ident-node (c .before .before .before .before .before .u32-at .result)) (c .before .before .t2 .given .1) ∙ field-behind 4 (λ s. text (ident-node s)) (c .before .before .before .before .before .before .before .before .args .datum .now) (c .before .before .before .before .before .u32-at .result) (omega arith) (c .before .before .before .before .before .u32-at .ensures)) refl (text-inside (c .before .before .before .before .before .before .before .before .args .datum .now) 5 (c .before .before .before .before .text-at .ensures) (c .before .before .t2 .given .0 .0) (c .before .before .t2 .given .1) (omega arith)) (omega arith)
+returns-3 c =
+    let txt2 = c .before .before .t2 in
+    let text-at = c .before .before .before .before .text-at in
+    let u32-at = c .before .before .before .before .before .u32-at in
+    let args = c .before .before .before .before .before .before .before .before .args in
+    shows-node (node.Ident (u32-at .result) (txt2 .given .0 .0)) (txt2 .given .0 .0 + 9) (c .sized .ensures)
+    (text-shown (args .datum .now) 5 (text-at .ensures) (txt2 .given .0 .0) (ident-node (u32-at .result)) (txt2 .given .1) ∙
+    field-behind 4 (λ s. text (ident-node s)) (args .datum .now) (u32-at .result) (omega arith) (u32-at .ensures)) refl
+    (text-inside (args .datum .now) 5 (text-at .ensures) (txt2 .given .0 .0) (txt2 .given .1) (omega arith)) (omega arith)
 
 pub read-ident-spec : {M : Type 1} → statement M
 read-ident-spec =

@@ -14,7 +14,10 @@ faulty-requires : tie.Need-faulty-requires
 faulty-requires c κs = search needs
 
 returns : tie.Need-returns
-returns c = shows-fault fault.CutShort (c .faulty .ensures) (field-short 8 number-node (c .before .before .before .args .datum .now) (omega arith) (c .before .before .before .pre))
+returns c =
+    let args = c .before .before .before .args in
+    let pre = c .before .before .before .pre in
+    shows-fault fault.CutShort (c .faulty .ensures) (field-short 8 number-node (args .datum .now) (omega arith) (pre))
 
 u64-at-requires : tie.Need-u64-at-requires
 u64-at-requires c κs = search needs
@@ -23,7 +26,12 @@ sized-requires : tie.Need-sized-requires
 sized-requires c κs = search needs
 
 returns-2 : tie.Need-returns-2
-returns-2 c = shows-node (node.Plain (value.Number (c .before .u64-at .result))) 9 (c .sized .ensures) (field-behind 8 number-node (c .before .before .before .before .args .datum .now) (c .before .u64-at .result) (omega arith) (c .before .u64-at .ensures)) refl (omega arith) (omega arith)
+returns-2 c =
+    let u64-at = c .before .u64-at in
+    let args = c .before .before .before .before .args in
+    shows-node (node.Plain (value.Number (u64-at .result))) 9 (c .sized .ensures)
+    (field-behind 8 number-node (args .datum .now) (u64-at .result) (omega arith) (u64-at .ensures)) refl (omega arith)
+    (omega arith)
 
 pub read-number-spec : {M : Type 1} → statement M
 read-number-spec =

@@ -13,13 +13,19 @@ sub-left : tie.Need-sub-left
 sub-left c = search needs
 
 returns : tie.Need-returns
-returns c = text-short (drop (c .before .before .args .at) (c .before .before .args .datum .now)) (omega (arith, length-drop (c .before .before .args .at) (c .before .before .args .datum .now)))
+returns c =
+    let args = c .before .before .args in
+    text-short (drop (args .at) (args .datum .now)) (omega (arith, length-drop (args .at) (args .datum .now)))
 
 u32-at-requires : tie.Need-u32-at-requires
 u32-at-requires c κs = search needs
 
 returns-2 : tie.Need-returns-2
-returns-2 c = text-cut (drop (c .before .before .before .before .args .at) (c .before .before .before .before .args .datum .now)) (c .before .u32-at .result) (omega (arith, length-drop (c .before .before .before .before .args .at) (c .before .before .before .before .args .datum .now))) (c .before .u32-at .ensures) (omega (arith, length-drop (c .before .before .before .before .args .at) (c .before .before .before .before .args .datum .now)))
+returns-2 c =
+    let u32-at = c .before .u32-at in
+    let args = c .before .before .before .before .args in
+    text-cut (drop (args .at) (args .datum .now)) (u32-at .result) (omega (arith, length-drop (args .at) (args .datum .now)))
+    (u32-at .ensures) (omega (arith, length-drop (args .at) (args .datum .now)))
 
 add-start : tie.Need-add-start
 add-start c = search needs
@@ -40,10 +46,22 @@ is-utf8-requires : tie.Need-is-utf8-requires
 is-utf8-requires c κs = search needs
 
 returns-3 : tie.Need-returns-3
-returns-3 c = text-good (drop (c .before .before .before .before .before .before .before .args .at) (c .before .before .before .before .before .before .before .args .datum .now)) (c .before .before .before .before .u32-at .result) (omega (arith, length-drop (c .before .before .before .before .before .before .before .args .at) (c .before .before .before .before .before .before .before .args .datum .now))) (c .before .before .before .before .u32-at .ensures) (omega (arith, length-drop (c .before .before .before .before .before .before .before .args .at) (c .before .before .before .before .before .before .before .args .datum .now))) (text-part utf8 (c .before .before .before .before .before .before .before .args .datum .now) (c .before .before .before .before .before .before .before .args .at) (c .before .before .before .before .u32-at .result) ∙ sym (c .before .is-utf8 .ensures) ∙ c .if3 .taken)
+returns-3 c =
+    let is-utf8 = c .before .is-utf8 in
+    let u32-at = c .before .before .before .before .u32-at in
+    let args = c .before .before .before .before .before .before .before .args in
+    text-good (drop (args .at) (args .datum .now)) (u32-at .result) (omega (arith, length-drop (args .at) (args .datum .now)))
+    (u32-at .ensures) (omega (arith, length-drop (args .at) (args .datum .now)))
+    (text-part utf8 (args .datum .now) (args .at) (u32-at .result) ∙ sym (is-utf8 .ensures) ∙ c .if3 .taken)
 
 returns-4 : tie.Need-returns-4
-returns-4 c = text-bad (drop (c .before .before .before .before .before .before .before .args .at) (c .before .before .before .before .before .before .before .args .datum .now)) (c .before .before .before .before .u32-at .result) (omega (arith, length-drop (c .before .before .before .before .before .before .before .args .at) (c .before .before .before .before .before .before .before .args .datum .now))) (c .before .before .before .before .u32-at .ensures) (omega (arith, length-drop (c .before .before .before .before .before .before .before .args .at) (c .before .before .before .before .before .before .before .args .datum .now))) (text-part utf8 (c .before .before .before .before .before .before .before .args .datum .now) (c .before .before .before .before .before .before .before .args .at) (c .before .before .before .before .u32-at .result) ∙ sym (c .before .is-utf8 .ensures) ∙ c .if3 .left)
+returns-4 c =
+    let is-utf8 = c .before .is-utf8 in
+    let u32-at = c .before .before .before .before .u32-at in
+    let args = c .before .before .before .before .before .before .before .args in
+    text-bad (drop (args .at) (args .datum .now)) (u32-at .result) (omega (arith, length-drop (args .at) (args .datum .now)))
+    (u32-at .ensures) (omega (arith, length-drop (args .at) (args .datum .now)))
+    (text-part utf8 (args .datum .now) (args .at) (u32-at .result) ∙ sym (is-utf8 .ensures) ∙ c .if3 .left)
 
 pub text-at-spec : {M : Type 1} → statement M
 text-at-spec =

@@ -61,7 +61,12 @@ add-result-2 : tie.Need-add-result-2
 add-result-2 c = search needs
 
 returns : tie.Need-returns
-returns c = let w : _ = four-at (c .before .before .before .before .before .before .before .before .before .args .datum .now) (c .before .before .before .before .before .before .before .before .before .args .at) (λ i. omega (arith, c .before .before .before .before .before .before .before .before .shared-slice-known .given i)) (c .before .before .before .before .before .before .before .before .before .pre) in subst (λ (n : ℕ). Number 4 (drop (c .before .before .before .before .before .before .before .before .before .args .at) (c .before .before .before .before .before .before .before .before .before .args .datum .now)) n) (omega arith) w
+returns c =
+    let shared-slice-known = c .before .before .before .before .before .before .before .before .shared-slice-known in
+    let args = c .before .before .before .before .before .before .before .before .before .args in
+    let pre = c .before .before .before .before .before .before .before .before .before .pre in
+    let w : _ = four-at (args .datum .now) (args .at) (λ i. omega (arith, shared-slice-known .given i)) (pre) in subst
+    (λ (n : ℕ). Number 4 (drop (args .at) (args .datum .now)) n) (omega arith) w
 
 pub u32-at-spec : {M : Type 1} → statement M
 u32-at-spec =

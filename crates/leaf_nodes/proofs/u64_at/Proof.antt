@@ -21,7 +21,12 @@ add-result : tie.Need-add-result
 add-result c = search needs
 
 returns : tie.Need-returns
-returns c = eight-at (c .before .before .before .args .datum .now) (c .before .before .before .args .at) (c .before .u32-at .result) (c .u32-at2 .result) (omega (arith, c .before .before .before .pre)) (c .before .u32-at .ensures) (c .u32-at2 .ensures)
+returns c =
+    let u32-at = c .before .u32-at in
+    let args = c .before .before .before .args in
+    let pre = c .before .before .before .pre in
+    eight-at (args .datum .now) (args .at) (u32-at .result) (c .u32-at2 .result) (omega (arith, pre)) (u32-at .ensures)
+    (c .u32-at2 .ensures)
 
 pub u64-at-spec : {M : Type 1} → statement M
 u64-at-spec =
