@@ -1,0 +1,4 @@
+pub mod TallyLaws
+pub mod PassLaws
+pub mod StepLaws
+pub mod Answers
