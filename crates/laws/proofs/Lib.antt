@@ -6,3 +6,4 @@ pub mod Sums
 pub mod Stores
 pub mod Zeros
 pub mod Sorting
+pub mod Finding
