@@ -5,7 +5,7 @@ ghost use mathlib.Core.Path.{_≡_};
 ghost use Prim.Native.Nat.{ℕ};
 ghost use Rattle.rules.specs.Heap.{Heap};
 ghost use Rattle.leaf_cells.specs.Cells.{cell-of};
-ghost use Rattle.heap_steps.specs.Steps.{Open, CellMade, TextOpen, StringPut};
+ghost use Rattle.heap_steps.specs.Steps.{Open, CellMade, TextOpen, StringPut, SymbolOpen, SymbolMade, SymbolReady, SymbolPut};
 
 // A new slot with this cell in it.
 pub fn new_cell(words: &mut [u64], map: &mut [u8], c: VCell) -> usize
@@ -25,4 +25,40 @@ pub fn put_string(words: &mut [u64], map: &mut [u8], bytes: &mut [u8], text: &[u
     let size = text.len();
     let place = leaf_cells::append_text(words, bytes, text);
     new_cell(words, map, VCell::String(place, size))
+}
+
+// A new symbol: its name at the end of the room in use, a slot that shows it, and an entry at the table's end.
+pub fn make_symbol(
+    words: &mut [u64],
+    map: &mut [u8],
+    bytes: &mut [u8],
+    name: &[u8],
+    scope: u64,
+) -> usize
+    requires { ⌜ ((n : ℕ) × (room : ℕ) × (h : Heap) × SymbolOpen n room h (now name) (now words) (now map) (now bytes)) ⌝ }
+    ensures { λ s. ⌜ ((n room : ℕ) (h : Heap) → SymbolOpen n room h (now (name .entry)) (now (words .entry)) (now (map .entry)) (now (bytes .entry)) → SymbolMade n room h (now (name .entry)) scope s (now (words .exit)) (now (map .exit)) (now (bytes .exit))) ⌝ }
+{
+    let size = name.len();
+    let place = leaf_cells::append_text(words, bytes, name);
+    let s = new_cell(words, map, VCell::Symbol(place, size));
+    leaf_symbols::add(words, s, scope);
+    s
+}
+
+// "A symbol is found or made under (name, 0), an identifier under (name, scope)."
+pub fn put_symbol(
+    words: &mut [u64],
+    map: &mut [u8],
+    bytes: &mut [u8],
+    name: &[u8],
+    scope: u64,
+) -> usize
+    requires { ⌜ ((n : ℕ) × (room : ℕ) × (h : Heap) × SymbolReady n room h (now name) scope (now words) (now map) (now bytes)) ⌝ }
+    ensures { λ s. ⌜ ((n room : ℕ) (h : Heap) → SymbolReady n room h (now (name .entry)) scope (now (words .entry)) (now (map .entry)) (now (bytes .entry)) → SymbolPut n room h (now (name .entry)) scope s (now (words .exit)) (now (map .exit)) (now (bytes .exit))) ⌝ }
+{
+    let found = leaf_symbols::find(words, bytes, name, scope);
+    match found {
+        leaf_symbols::Found::At(s) => s,
+        leaf_symbols::Found::Missing => make_symbol(words, map, bytes, name, scope),
+    }
 }
