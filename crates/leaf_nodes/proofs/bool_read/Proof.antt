@@ -1,0 +1,44 @@
+use lib.ListN.{drop}
+use mathlib.Core.Path.{refl}
+use native.Mathlib.Omega.{arith}
+use mathlib.Core.Bool.{true, false}
+use Rattle.leaf_nodes.specs.declared.Fault.the-variants as fault
+use Rattle.leaf_nodes.specs.declared.Node.the-variants as node
+use Rattle.leaf_cells.specs.declared.Value.the-variants as value
+use Rattle.leaf_nodes.proofs.Laws.{shows-node, shows-fault, bool-is, bool-bad}
+use borrow.Author.Needs.{needs}
+use Rattle.leaf_nodes.proofs.bool_read.Statement.{statement}
+use Rattle.leaf_nodes.proofs.bool_read.Tie as tie
+use Rattle.leaf_nodes.proofs.bool_read.Reads as reads
+use Rattle.leaf_nodes.proofs.bool_read.Lts as lts
+use Rattle.leaf_nodes.proofs.faulty.Reads as faulty-reads
+use Rattle.leaf_nodes.proofs.sized.Reads as sized-reads
+
+-- src/lib.rt:92:9
+sized-requires : tie.Need-sized-requires
+sized-requires c κs = search needs
+
+-- src/lib.rt:94:9
+sized-requires-2 : tie.Need-sized-requires-2
+sized-requires-2 c κs = search needs
+
+-- src/lib.rt:96:9
+faulty-requires : tie.Need-faulty-requires
+faulty-requires c κs = search needs
+
+-- src/lib.rt:88:1
+returns : tie.Need-returns
+returns c = λ bs h. shows-node (node.Plain (value.Bool false)) 5 (c .sized .ensures) (bool-is false (c .before .before .args .n) (drop 5 bs) (omega arith)) refl h (omega arith)
+
+-- src/lib.rt:88:1
+returns-2 : tie.Need-returns-2
+returns-2 c = λ bs h. shows-node (node.Plain (value.Bool true)) 5 (c .sized2 .ensures) (bool-is true (c .before .before .before .args .n) (drop 5 bs) (omega arith)) refl h (omega arith)
+
+-- src/lib.rt:88:1
+returns-3 : tie.Need-returns-3
+returns-3 c = λ bs h. shows-fault fault.BadBool (c .faulty .ensures) (bool-bad (c .before .before .before .args .n) (drop 5 bs) (omega arith))
+
+pub bool-read-spec : {M : Type 1} → statement M
+bool-read-spec =
+    tie.close
+    (tie.spec sized-requires sized-requires-2 faulty-requires returns returns-2 returns-3)
