@@ -1,9 +1,13 @@
 // The steps that a put is made of (heap.rs, put): a new cell, a string, a symbol found or made. Each is the rules' step on
 // the lent lists. Document 01, "Slots and growth".
 use leaf_cells::VCell;
+use leaf_cells::Value;
 ghost use mathlib.Core.Path.{_≡_};
 ghost use Prim.Native.Nat.{ℕ};
-ghost use Rattle.rules.specs.Heap.{Heap};
+ghost use Rattle.rules.specs.Heap.{Heap, shown, with-cell};
+ghost use Rattle.rules.specs.Layout.{words-of};
+ghost use Rattle.leaf_cells.specs.Elements.{value-of};
+ghost use Rattle.heap_steps.specs.Places.{shape-of, shown-place, SlotOpen, SlotMade, CopyOpen};
 ghost use Rattle.leaf_cells.specs.Cells.{cell-of};
 ghost use Rattle.heap_steps.specs.Steps.{Open, CellMade, TextOpen, StringPut, SymbolOpen, SymbolMade, SymbolReady, SymbolPut};
 
@@ -60,5 +64,55 @@ pub fn put_symbol(
     match found {
         leaf_symbols::Found::At(s) => s,
         leaf_symbols::Found::Missing => make_symbol(words, map, bytes, name, scope),
+    }
+}
+
+// A slot, or the cell of a scalar.
+pub enum Place {
+    At(usize),
+    New(VCell),
+}
+
+pub fn place_of(v: Value) -> Place
+    ensures { λ r. ⌜ shown-place r ≡ shape-of (value-of v) ⌝ }
+{
+    match v {
+        Value::Slot(s) => Place::At(s),
+        Value::Undefined => Place::New(VCell::Undefined),
+        Value::Nil => Place::New(VCell::Nil),
+        Value::Eof => Place::New(VCell::Eof),
+        Value::Void => Place::New(VCell::Void),
+        Value::Bool(b) => Place::New(VCell::Bool(b)),
+        Value::Char(n) => Place::New(VCell::Char(n)),
+        Value::Number(n) => Place::New(VCell::Number(n)),
+    }
+}
+
+// "every car and cdr in a slot", "The outer answer is always a slot": a value's own slot, or a new one for a scalar.
+pub fn in_slot(words: &mut [u64], map: &mut [u8], v: Value) -> usize
+    requires { ⌜ ((n : ℕ) × (h : Heap) × SlotOpen n h (value-of v) (now words) (now map)) ⌝ }
+    ensures { λ s. ⌜ ((n : ℕ) (h : Heap) → SlotOpen n h (value-of v) (now (words .entry)) (now (map .entry)) → SlotMade n h (value-of v) s (now (words .exit)) (now (map .exit))) ⌝ }
+{
+    let p = place_of(v);
+    match p {
+        Place::At(s) => s,
+        Place::New(c) => new_cell(words, map, c),
+    }
+}
+
+// "copies the resulting cell into that slot": the value's cell as it stands now.
+pub fn copy_cell(words: &mut [u64], slot: usize, v: Value)
+    requires { ⌜ ((n : ℕ) × (h : Heap) × CopyOpen n h slot (value-of v) (now words)) ⌝ }
+    ensures { λ _. ⌜ ((n : ℕ) (h : Heap) → CopyOpen n h slot (value-of v) (now (words .entry)) → now (words .exit) ≡ words-of n (with-cell h slot (shown h (value-of v)))) ⌝ }
+{
+    let p = place_of(v);
+    match p {
+        Place::At(s) => {
+            let c = leaf_cells::load(words, s);
+            leaf_cells::store(words, slot, c);
+        }
+        Place::New(c) => {
+            leaf_cells::store(words, slot, c);
+        }
     }
 }
