@@ -3,18 +3,19 @@
 use mathlib.Core.Path.{_≡_}
 use mathlib.Core.Bool.{true}
 use mathlib.Core.List.{List, _++_}
-use Prim.Native.Nat.{ℕ, _+_, _<_, _≤_}
+use Prim.Native.Nat.{ℕ, _+_, _*_, _<_, _≤_}
 use lib.ListN.{length}
 use Rattle.laws.specs.Basics.{every, join}
 use Rattle.rules.specs.Cells.{Cell}
-use Rattle.rules.specs.Nodes.{write-node, node-fits}
+use Rattle.rules.specs.Nodes.{Atom, Node, write-node, node-fits}
 use Rattle.rules.specs.Datum.{Datum, Data, pair, vector, def, how-many, encode, datum-fits, all-nodes}
 use Rattle.rules.specs.Heap.{capacity, shown}
-use Rattle.rules.specs.Layout.{Rooms}
-use Rattle.rules.specs.Put.{Making, Put, in-slot, slot-in, put, put-all, store-at}
+use Rattle.rules.specs.Layout.{Rooms, words-of, map-bytes, filled}
+use Rattle.rules.specs.Put.{Making, Put, in-slot, slot-in, put-atom, put, put-all, store-at}
 use Rattle.leaf_cells.specs.Elements.{value-of}
 use Rattle.leaf_cells.specs.declared.Value.{Value}
-use Rattle.heap_put.specs.Makings.{Stands, Able, Within}
+use Rattle.heap_labels.specs.Labels.{labels-in}
+use Rattle.heap_atoms.specs.Makings.{Stands, Able, Within}
 
 -- a tree to be put, all of whose put is within the rooms
 pub record Task (r : Rooms) (f : ℕ) (m : Making) (t : Datum) (rest : List ℕ) (count : ℕ) (datum words map bytes elems labels : List ℕ) : Type 0 where
@@ -29,6 +30,26 @@ pub record Done (r : Rooms) (m : Making) (t : Datum) (value : Value) (size count
   pub stands : Stands r (put t m .making) count words map bytes elems labels
   pub value-is : value-of value ≡ put t m .value
   pub size-is : size ≡ length (encode t)
+
+-- a leaf of the tree: the elements are not touched, and the labels only read
+pub record AtomTask (r : Rooms) (f : ℕ) (m : Making) (a : Atom) (rest : List ℕ) (count : ℕ) (datum words map bytes labels : List ℕ) : Type 0 where
+  pub words-are : words ≡ words-of (r .slots) (m .heap)
+  pub map-is : map ≡ filled (map-bytes (r .slots)) (m .heap .map)
+  pub bytes-are : bytes ≡ filled (r .bytes) (m .heap .bytes)
+  pub labels-are : labels-in labels count ≡ m .labels
+  pub labels-room : 2 * count ≤ length labels
+  pub able : Able r f m
+  pub within : Within r f (put-atom a m .making)
+  pub datum-is : datum ≡ write-node (Node.atom a) ++ rest
+  pub fits : node-fits (Node.atom a) ≡ true
+
+pub record AtomDone (r : Rooms) (m : Making) (a : Atom) (count : ℕ) (value : Value) (size count′ : ℕ) (words map bytes : List ℕ) : Type 0 where
+  pub words-are : words ≡ words-of (r .slots) (put-atom a m .making .heap)
+  pub map-is : map ≡ filled (map-bytes (r .slots)) (put-atom a m .making .heap .map)
+  pub bytes-are : bytes ≡ filled (r .bytes) (put-atom a m .making .heap .bytes)
+  pub value-is : value-of value ≡ put-atom a m .value
+  pub size-is : size ≡ length (write-node (Node.atom a))
+  pub count-is : count′ ≡ count
 
 -- the same where a slot is wanted
 pub record SlotTask (r : Rooms) (f : ℕ) (m : Making) (t : Datum) (rest : List ℕ) (count : ℕ) (datum words map bytes elems labels : List ℕ) : Type 0 where

@@ -10,7 +10,10 @@ use Rattle.rules.specs.Heap.{Entry, capacity, used-count, fitting, most-growths
 use Rattle.rules.specs.Layout.{Rooms, words-of, map-bytes, filled, value-words}
 use Rattle.rules.specs.Put.{Label, Making}
 use Rattle.leaf_free.proofs.Allocating.{Growing}
+use Rattle.rules.specs.Nodes.{Node, Reading, reads, faulty}
 use Rattle.heap_labels.specs.Labels.{labels-in}
+use Rattle.heap_atoms.specs.declared.Shape.{Shape}
+use Rattle.heap_atoms.specs.declared.Shape.the-variants as shape
 
 -- the lists are those of the heap in the making, and the scratch has its labels
 pub record Stands (r : Rooms) (m : Making) (count : ℕ) (words map bytes elems labels : List ℕ) : Type 0 where
@@ -35,3 +38,25 @@ pub record Within (r : Rooms) (limit : ℕ) (m : Making) : Type 0 where
   pub bytes : length (m .heap .bytes) ≤ r .bytes
   pub elements : length (m .heap .elements) ≤ r .elements
   pub labels : length (m .labels) ≤ 64
+
+-- ---- what a datum begins with
+
+pub data Head : Type 0 where
+  an-atom a-pair : Head
+  a-vector a-label : ℕ → Head
+
+abbrev pub head-of-node : Node → Head
+head-of-node (Node.atom a) = an-atom
+head-of-node Node.pair = a-pair
+head-of-node (Node.vector n) = a-vector n
+head-of-node (Node.def l) = a-label l
+
+abbrev pub head-of : Reading Node → Head
+head-of (reads n rest) = head-of-node n
+head-of (faulty x) = an-atom
+
+abbrev pub shown-shape : Shape → Head
+shown-shape shape.Atom = an-atom
+shown-shape shape.Pair = a-pair
+shown-shape (shape.Vector n) = a-vector n
+shown-shape (shape.Label l) = a-label l

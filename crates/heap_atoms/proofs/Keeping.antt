@@ -21,7 +21,7 @@ use Rattle.leaf_free.proofs.Allocating.{Growing, Room, available, room, alloc-g
 use Rattle.leaf_free.proofs.TakenSlot.{TakenFrom, alloc-taken}
 use Rattle.heap_steps.proofs.CellSteps.{sized-of}
 use Rattle.heap_steps.proofs.Sizes.{Sized, Larger, larger-on, larger-same, new-cell-larger, larger-bytes, larger-block, larger-entry, larger-element, in-slot-larger, put-string-larger, make-symbol-larger, put-symbol-larger, labelled-larger, end-label-larger, put-larger, put-all-larger}
-use Rattle.heap_put.specs.Makings.{Able, Within}
+use Rattle.heap_atoms.specs.Makings.{Able, Within}
 
 -- ---- within at the end, within before
 
@@ -159,6 +159,10 @@ able-room r f m b e a =
       table-below = a .table-below;
       labels-below = a .labels-below;
     }
+
+-- more bytes
+pub able-bytes : (r : Rooms) (f : ℕ) (m : Making) (t : List ℕ) → Able r f m → Able r f (making (with-bytes (m .heap) t) (m .labels))
+able-bytes r f m t a = able-room r f m (m .heap .bytes ++ t) (m .heap .elements) a
 
 -- an entry more, whose slot is below the capacity, while fewer entries than used slots stood
 able-entry : (r : Rooms) (f : ℕ) (m : Making) (e : Entry) → Able r f m → e .slot < capacity (m .heap) → length (m .heap .table) < used-count (m .heap) → Able r f (making (with-entry (m .heap) e) (m .labels))
