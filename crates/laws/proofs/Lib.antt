@@ -5,5 +5,6 @@ pub mod Below
 pub mod Sums
 pub mod Stores
 pub mod Zeros
+pub mod Pointwise
 pub mod Sorting
 pub mod Finding

@@ -78,36 +78,35 @@ pub record TableFits (n : ℕ) (h : Heap) : Type 0 where
   pub rows : length (h .table) ≤ n
   pub slots : (i : ℕ) → i < length (h .table) → entry-at h i .slot < n
 
-module _ (n room : ℕ) (h : Heap) (fits : TableFits n h) where
-  -- what finding asks of the words and bytes
-  pub tabled : Tabled (words-of n h)
-  tabled =
-      let size = words-length n h in
-      let many = count-word n h in
-      let rows = fits .rows in
-      record {
-        header = omega arith;
-        rows = omega arith;
-        slots = λ i small.
-            let inside : i < length (h .table) = omega arith in
-            omega (arith, fits .slots i inside, ap (λ (e : Entry). e .slot) (entry-word n h i (omega arith)));
-      }
+-- what finding asks of the words and bytes
+pub tabled : (n : ℕ) (h : Heap) → TableFits n h → Tabled (words-of n h)
+tabled n h fits =
+    let size = words-length n h in
+    let many = count-word n h in
+    let rows = fits .rows in
+    record {
+      header = omega arith;
+      rows = omega arith;
+      slots = λ i small.
+          let inside : i < length (h .table) = omega arith in
+          omega (arith, fits .slots i inside, ap (λ (e : Entry). e .slot) (entry-word n h i (omega arith)));
+    }
 
-  pub bytes-within : length (h .bytes) ≤ room → bytes-used (words-of n h) ≤ length (filled room (h .bytes))
-  bytes-within small = omega (arith, bytes-word n h, filled-length room (h .bytes) small)
+pub bytes-within : (n room : ℕ) (h : Heap) → length (h .bytes) ≤ room → bytes-used (words-of n h) ≤ length (filled room (h .bytes))
+bytes-within n room h small = omega (arith, bytes-word n h, filled-length room (h .bytes) small)
 
-  -- the slot that is found is that of the entry found in the heap
-  pub found-is : (name : List ℕ) (scope : ℕ) → found-in (words-of n h) (filled room (h .bytes)) name scope ≡ slot-of (found h name scope)
-  unfolding found-in found is-entry entry-at
-  found-is name scope =
-      let ws = words-of n h in
-      let bytes = filled room (h .bytes) in
-      ap (λ (l : List Entry). slot-of (find (is-entry ws bytes name scope) l)) (entries-are n h (fits .rows))
-      ∙ ap slot-of
-      (find-same no-entry (is-entry ws bytes name scope)
-      (λ (e : Entry). both (eqb (e .scope) scope) (same (name-at h (e .slot)) name)) (h .table)
-      (λ i small.
-      ap (λ (l : List ℕ). both (eqb (entry-at h i .scope) scope) (same l name)) (name-is n room h (entry-at h i .slot) (fits .slots i small))))
+-- the slot that is found is that of the entry found in the heap
+pub found-is : (n room : ℕ) (h : Heap) → TableFits n h → (name : List ℕ) (scope : ℕ) → found-in (words-of n h) (filled room (h .bytes)) name scope ≡ slot-of (found h name scope)
+unfolding found-in found is-entry entry-at
+found-is n room h fits name scope =
+    let ws = words-of n h in
+    let bytes = filled room (h .bytes) in
+    ap (λ (l : List Entry). slot-of (find (is-entry ws bytes name scope) l)) (entries-are n h (fits .rows))
+    ∙ ap slot-of
+    (find-same no-entry (is-entry ws bytes name scope)
+    (λ (e : Entry). both (eqb (e .scope) scope) (same (name-at h (e .slot)) name)) (h .table)
+    (λ i small.
+    ap (λ (l : List ℕ). both (eqb (entry-at h i .scope) scope) (same l name)) (name-is n room h (entry-at h i .slot) (fits .slots i small))))
 
 -- ---- rows with other entries
 

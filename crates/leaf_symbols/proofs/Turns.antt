@@ -12,7 +12,7 @@ use Rattle.laws.specs.Basics.{choose, both, find, keep, same, basics}
 use Rattle.laws.proofs.Tests.{both-true}
 use Rattle.rules.specs.Map.{state-of, is-allocated, Allocated}
 use Rattle.rules.specs.Heap.{Entry}
-use Rattle.leaf_symbols.specs.Table.{count-of, name-of, entry, entry-in, entries-from, entries, is-entry, slot-of, found-in, stored-entry, stored-entries, kept-entries, ClosedUp, cleared, dropped}
+use Rattle.leaf_symbols.specs.Table.{count-of, name-of, entry, entry-in, entries-from, entries, is-entry, slot-of, found-in, stored-entry, stored-entries, added, kept-entries, ClosedUp, cleared, dropped}
 
 -- ---- finding
 
@@ -69,6 +69,10 @@ pub length-stored-all : (ws : List ℕ) (i : ℕ) (es : List Entry) → length (
 unfolding stored-entries
 length-stored-all ws i [] = refl
 length-stored-all ws i (e ∷ es) = length-stored-all (stored-entry ws i e) (suc i) es ∙ length-stored ws i e
+
+pub length-added : (ws : List ℕ) (e : Entry) → length (added ws e) ≡ length ws
+unfolding added
+length-added ws e = length-set (stored-entry ws (count-of ws) e) 3 (count-of ws + 1) ∙ length-stored ws (count-of ws) e
 
 -- another entry's words stay
 other-stored : (ws : List ℕ) (i j : ℕ) (e : Entry) → (j ≡ i → ⊥) → entry-in (stored-entry ws i e) j ≡ entry-in ws j
@@ -216,3 +220,10 @@ pub drops : (ws map ws₁ ws₂ : List ℕ) (r : ℕ) → ClosedUp ws ws₁ map 
 unfolding dropped
 drops ws map ws₁ ws₂ r c e =
     ap (λ (l : List ℕ). set l 3 r) e ∙ (λ x. set (cleared (c .words x) (c .many x) (count-of ws)) 3 (c .many x))
+
+pub length-dropped : (ws map : List ℕ) → length (dropped ws map) ≡ length ws
+unfolding dropped
+length-dropped ws map =
+    let kept = kept-entries ws map in
+    length-set (cleared (stored-entries ws 0 kept) (length kept) (count-of ws)) 3 (length kept)
+    ∙ length-cleared (stored-entries ws 0 kept) (length kept) (count-of ws) ∙ length-stored-all ws 0 kept

@@ -6,3 +6,14 @@ pub mod TwoBits
 pub mod SoundLaws
 pub mod EqualLaws
 pub mod Flat
+pub mod Growth
+pub mod Good
+pub mod Keeping
+pub mod Allocate
+pub mod Grows
+pub mod PutCells
+pub mod PutGood
+pub mod GoodSound
+pub mod PutSound
+pub mod StoreSound
+pub mod Monotone

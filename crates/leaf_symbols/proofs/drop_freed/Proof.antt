@@ -19,7 +19,7 @@ slice-write-words : tie.Need-slice-write-words
 slice-write-words c = search needs
 
 same-length : tie.Need-same-length
-same-length c = simp length-set (ap length (c .before .before .clear .ensures) ∙ length-cleared (c .before .before .before .before .before .before .close-up .last .0) (c .before .before .before .before .before .before .close-up .result) _ ∙ length-closed (c .before .before .before .before .before .before .before .before .before .before .before .args .words .now) (c .before .before .before .before .before .before .close-up .last .0) (c .before .before .before .before .before .before .before .before .before .before .before .args .map .now) (c .before .before .before .before .before .before .close-up .result) (c .before .before .before .before .before .before .close-up .ensures))
+same-length c = simp length-set (ap length (c .before .before .clear .ensures) ∙ length-cleared (c .before .before .before .before .before .before .close-up .last .0) _ _ ∙ length-closed (c .before .before .before .before .before .before .before .before .before .before .before .args .words .now) (c .before .before .before .before .before .before .close-up .last .0) (c .before .before .before .before .before .before .before .before .before .before .before .args .map .now) (c .before .before .before .before .before .before .close-up .result) (c .before .before .before .before .before .before .close-up .ensures))
 
 returns : tie.Need-returns
 returns c = drops (c .before .before .before .before .before .before .before .before .before .before .before .args .words .now) (c .before .before .before .before .before .before .before .before .before .before .before .args .map .now) (c .before .before .before .before .before .before .close-up .last .0) _ (c .before .before .before .before .before .before .close-up .result) (c .before .before .before .before .before .before .close-up .ensures) (c .before .before .clear .ensures)
