@@ -49,11 +49,22 @@ pub fn shape_of(datum: &[u8]) -> Shape
 fn put_as(value: Value, size: usize, labels: usize) -> Put
     ensures { λ p. ⌜ p ≡ record { value = value; size = size; labels = labels } ⌝ }
 {
-    Put { value, size, labels }
+    Put {
+        value,
+        size,
+        labels,
+    }
 }
 
 // Puts a leaf: "a scalar", a string, a symbol or identifier, or a reference to a label.
-pub fn put_atom(words: &mut [u64], map: &mut [u8], bytes: &mut [u8], labels: &[u64], count: usize, datum: &[u8]) -> Put
+pub fn put_atom(
+    words: &mut [u64],
+    map: &mut [u8],
+    bytes: &mut [u8],
+    labels: &[u64],
+    count: usize,
+    datum: &[u8],
+) -> Put
     requires { ⌜ ((r : Rooms) × (f : ℕ) × (m : Making) × (a : Atom) × (rest : List ℕ) × AtomTask r f m a rest count (now datum) (now words) (now map) (now bytes) (now labels)) ⌝ }
     ensures { λ p. ⌜ ((r : Rooms) (f : ℕ) (m : Making) (a : Atom) (rest : List ℕ) → AtomTask r f m a rest count (now (datum .entry)) (now (words .entry)) (now (map .entry)) (now (bytes .entry)) (now (labels .entry)) → AtomDone r m a count (p .value) (p .size) (p .labels) (now (words .exit)) (now (map .exit)) (now (bytes .exit))) ⌝ }
 {
@@ -77,7 +88,11 @@ pub fn put_atom(words: &mut [u64], map: &mut [u8], bytes: &mut [u8], labels: &[u
             let s = heap_steps::put_symbol(words, map, bytes, &datum[from..size], scope);
             put_as(Value::Slot(s), size, count)
         }
-        Node::Ref(l) => put_as(Value::Slot(heap_labels::slot_of(labels, count, l)), size, count),
+        Node::Ref(l) => put_as(
+            Value::Slot(heap_labels::slot_of(labels, count, l)),
+            size,
+            count,
+        ),
         Node::Pair => put_as(Value::Undefined, size, count),
         Node::Vector(_) => put_as(Value::Undefined, size, count),
         Node::Def(_) => put_as(Value::Undefined, size, count),

@@ -60,12 +60,12 @@ module _ (n room : ℕ) (h : Heap) (name words map bytes : List ℕ) (o : Symbol
 
 module _ (n room : ℕ) (h : Heap) (name : List ℕ) (scope : ℕ) (words map bytes : List ℕ) (o : SymbolReady n room h name scope words map bytes) where
   pub find-tabled : Tabled words
-  find-tabled = subst (λ (w : List ℕ). Tabled w) (sym (o .standing .words-are)) (tabled n room h (o .table-fits))
+  find-tabled = subst (λ (w : List ℕ). Tabled w) (sym (o .standing .words-are)) (tabled n h (o .table-fits))
 
   pub find-bytes : bytes-used words ≤ length bytes
   find-bytes =
       subst₂ (λ (w b : List ℕ). bytes-used w ≤ length b) (sym (o .standing .words-are)) (sym (o .standing .bytes-are))
-      (bytes-within n room h (o .table-fits) (o .bytes-fit))
+      (bytes-within n room h (o .bytes-fit))
 
   is-found : (r : Found) → shown-found r ≡ found-in words bytes name scope → shown-found r ≡ slot-of (found h name scope)
   is-found r e =

@@ -1,4 +1,6 @@
 use borrow.Author.Needs.{needs}
+use native.Mathlib.Omega.{arith}
+use Rattle.heap_atoms.proofs.Atoms.{inside-text, inside-datum, handed, plain-done, ref-done, string-open-on, string-done-on, symbol-open-on, symbol-done-on, ident-open-on, ident-done-on, never-pair, never-vector, never-label, never-faulty, answered}
 use Rattle.heap_atoms.proofs.put_atom.Statement.{statement}
 use Rattle.heap_atoms.proofs.put_atom.Tie as tie
 use Rattle.heap_atoms.proofs.put_atom.Reads as reads
@@ -27,7 +29,7 @@ enum-known-node-2 c = search needs
 
 -- src/lib.rt:66:24
 sub-from : tie.Need-sub-from
-sub-from c = ?
+sub-from c = inside-text (c .before .before .before .before .before .before .before .before .before .pre .0) (c .before .before .before .before .before .before .before .before .before .pre .1) (c .before .before .before .before .before .before .before .before .before .pre .2) (c .before .before .before .before .before .before .before .before .before .pre .3) (c .before .before .before .before .before .before .before .before .before .pre .4) _ _ _ _ _ _ (c .before .before .before .before .before .before .before .before .before .pre .5) _ (c .before .before .before .read-node .ensures) _ (c .before .node2 .given .1)
 
 -- src/lib.rt:67:63
 sub-put-string : tie.Need-sub-put-string
@@ -43,7 +45,7 @@ part-put-string-end c = search needs
 
 -- src/lib.rt:67:17
 put-string-requires : tie.Need-put-string-requires
-put-string-requires c κs = ?
+put-string-requires c κs = (_, _, _, string-open-on (c .before .before .before .before .before .before .before .before .before .before .before .before .before .pre .0) (c .before .before .before .before .before .before .before .before .before .before .before .before .before .pre .1) (c .before .before .before .before .before .before .before .before .before .before .before .before .before .pre .2) (c .before .before .before .before .before .before .before .before .before .before .before .before .before .pre .3) (c .before .before .before .before .before .before .before .before .before .before .before .before .before .pre .4) _ _ _ _ _ _ (c .before .before .before .before .before .before .before .before .before .before .before .before .before .pre .5) _ (c .before .before .before .before .before .before .before .read-node .ensures) _ _ (c .before .before .before .before .before .node2 .given .1) (handed (c .before .before .before .before .before .before .before .before .before .before .before .before .before .pre .0) (c .before .before .before .before .before .before .before .before .before .before .before .before .before .pre .1) (c .before .before .before .before .before .before .before .before .before .before .before .before .before .pre .2) (c .before .before .before .before .before .before .before .before .before .before .before .before .before .pre .3) (c .before .before .before .before .before .before .before .before .before .before .before .before .before .pre .4) _ _ _ _ _ _ (c .before .before .before .before .before .before .before .before .before .before .before .before .before .pre .5) _ (c .before .before .before .before .before .before .before .read-node .ensures) _ (inside-text (c .before .before .before .before .before .before .before .before .before .before .before .before .before .pre .0) (c .before .before .before .before .before .before .before .before .before .before .before .before .before .pre .1) (c .before .before .before .before .before .before .before .before .before .before .before .before .before .pre .2) (c .before .before .before .before .before .before .before .before .before .before .before .before .before .pre .3) (c .before .before .before .before .before .before .before .before .before .before .before .before .before .pre .4) _ _ _ _ _ _ (c .before .before .before .before .before .before .before .before .before .before .before .before .before .pre .5) _ (c .before .before .before .before .before .before .before .read-node .ensures) _ (c .before .before .before .before .before .node2 .given .1))))
 
 -- src/lib.rt:68:13
 put-as-requires-2 : tie.Need-put-as-requires-2
@@ -55,7 +57,7 @@ enum-known-node-3 c = search needs
 
 -- src/lib.rt:71:24
 sub-from-2 : tie.Need-sub-from-2
-sub-from-2 c = ?
+sub-from-2 c = inside-text (c .before .before .before .before .before .before .before .before .before .pre .0) (c .before .before .before .before .before .before .before .before .before .pre .1) (c .before .before .before .before .before .before .before .before .before .pre .2) (c .before .before .before .before .before .before .before .before .before .pre .3) (c .before .before .before .before .before .before .before .before .before .pre .4) _ _ _ _ _ _ (c .before .before .before .before .before .before .before .before .before .pre .5) _ (c .before .before .before .read-node .ensures) _ (c .before .node3 .given .1)
 
 -- src/lib.rt:72:63
 sub-put-symbol : tie.Need-sub-put-symbol
@@ -71,7 +73,7 @@ part-put-symbol-end c = search needs
 
 -- src/lib.rt:72:17
 put-symbol-requires : tie.Need-put-symbol-requires
-put-symbol-requires c κs = ?
+put-symbol-requires c κs = (_, _, _, symbol-open-on (c .before .before .before .before .before .before .before .before .before .before .before .before .before .pre .0) (c .before .before .before .before .before .before .before .before .before .before .before .before .before .pre .1) (c .before .before .before .before .before .before .before .before .before .before .before .before .before .pre .2) (c .before .before .before .before .before .before .before .before .before .before .before .before .before .pre .3) (c .before .before .before .before .before .before .before .before .before .before .before .before .before .pre .4) _ _ _ _ _ _ (c .before .before .before .before .before .before .before .before .before .before .before .before .before .pre .5) _ (c .before .before .before .before .before .before .before .read-node .ensures) _ _ (c .before .before .before .before .before .node3 .given .1) (handed (c .before .before .before .before .before .before .before .before .before .before .before .before .before .pre .0) (c .before .before .before .before .before .before .before .before .before .before .before .before .before .pre .1) (c .before .before .before .before .before .before .before .before .before .before .before .before .before .pre .2) (c .before .before .before .before .before .before .before .before .before .before .before .before .before .pre .3) (c .before .before .before .before .before .before .before .before .before .before .before .before .before .pre .4) _ _ _ _ _ _ (c .before .before .before .before .before .before .before .before .before .before .before .before .before .pre .5) _ (c .before .before .before .before .before .before .before .read-node .ensures) _ (inside-text (c .before .before .before .before .before .before .before .before .before .before .before .before .before .pre .0) (c .before .before .before .before .before .before .before .before .before .before .before .before .before .pre .1) (c .before .before .before .before .before .before .before .before .before .before .before .before .before .pre .2) (c .before .before .before .before .before .before .before .before .before .before .before .before .before .pre .3) (c .before .before .before .before .before .before .before .before .before .before .before .before .before .pre .4) _ _ _ _ _ _ (c .before .before .before .before .before .before .before .before .before .before .before .before .before .pre .5) _ (c .before .before .before .before .before .before .before .read-node .ensures) _ (c .before .before .before .before .before .node3 .given .1))))
 
 -- src/lib.rt:73:13
 put-as-requires-3 : tie.Need-put-as-requires-3
@@ -83,7 +85,7 @@ enum-known-node-4 c = search needs
 
 -- src/lib.rt:76:24
 sub-from-3 : tie.Need-sub-from-3
-sub-from-3 c = ?
+sub-from-3 c = inside-text (c .before .before .before .before .before .before .before .before .before .pre .0) (c .before .before .before .before .before .before .before .before .before .pre .1) (c .before .before .before .before .before .before .before .before .before .pre .2) (c .before .before .before .before .before .before .before .before .before .pre .3) (c .before .before .before .before .before .before .before .before .before .pre .4) _ _ _ _ _ _ (c .before .before .before .before .before .before .before .before .before .pre .5) _ (c .before .before .before .read-node .ensures) _ (c .before .node4 .given .1)
 
 -- src/lib.rt:77:63
 sub-put-symbol-2 : tie.Need-sub-put-symbol-2
@@ -99,7 +101,7 @@ part-put-symbol-end-2 c = search needs
 
 -- src/lib.rt:77:17
 put-symbol-requires-2 : tie.Need-put-symbol-requires-2
-put-symbol-requires-2 c κs = ?
+put-symbol-requires-2 c κs = (_, _, _, ident-open-on (c .before .before .before .before .before .before .before .before .before .before .before .before .before .pre .0) (c .before .before .before .before .before .before .before .before .before .before .before .before .before .pre .1) (c .before .before .before .before .before .before .before .before .before .before .before .before .before .pre .2) (c .before .before .before .before .before .before .before .before .before .before .before .before .before .pre .3) (c .before .before .before .before .before .before .before .before .before .before .before .before .before .pre .4) _ _ _ _ _ _ (c .before .before .before .before .before .before .before .before .before .before .before .before .before .pre .5) _ (c .before .before .before .before .before .before .before .read-node .ensures) _ _ _ (c .before .before .before .before .before .node4 .given .1) (handed (c .before .before .before .before .before .before .before .before .before .before .before .before .before .pre .0) (c .before .before .before .before .before .before .before .before .before .before .before .before .before .pre .1) (c .before .before .before .before .before .before .before .before .before .before .before .before .before .pre .2) (c .before .before .before .before .before .before .before .before .before .before .before .before .before .pre .3) (c .before .before .before .before .before .before .before .before .before .before .before .before .before .pre .4) _ _ _ _ _ _ (c .before .before .before .before .before .before .before .before .before .before .before .before .before .pre .5) _ (c .before .before .before .before .before .before .before .read-node .ensures) _ (inside-text (c .before .before .before .before .before .before .before .before .before .before .before .before .before .pre .0) (c .before .before .before .before .before .before .before .before .before .before .before .before .before .pre .1) (c .before .before .before .before .before .before .before .before .before .before .before .before .before .pre .2) (c .before .before .before .before .before .before .before .before .before .before .before .before .before .pre .3) (c .before .before .before .before .before .before .before .before .before .before .before .before .before .pre .4) _ _ _ _ _ _ (c .before .before .before .before .before .before .before .before .before .before .before .before .before .pre .5) _ (c .before .before .before .before .before .before .before .read-node .ensures) _ (c .before .before .before .before .before .node4 .given .1))))
 
 -- src/lib.rt:78:13
 put-as-requires-4 : tie.Need-put-as-requires-4
@@ -151,7 +153,7 @@ put-as-requires-9 c κs = search needs
 
 -- src/lib.rt:56:1
 returns : tie.Need-returns
-returns c = ?
+returns c = λ r f m a rest t. answered r m a _ _ _ _ _ _ _ _ (c .put-as .ensures) (plain-done r f m a rest _ _ _ _ _ _ t _ (c .before .before .before .before .read-node .ensures) _ (c .before .before .node .given .1))
 
 -- src/lib.rt:56:1
 same-length : tie.Need-same-length
@@ -167,7 +169,7 @@ same-length-3 c = search needs
 
 -- src/lib.rt:56:1
 returns-2 : tie.Need-returns-2
-returns-2 c = ?
+returns-2 c = λ r f m a rest t. answered r m a _ _ _ _ _ _ _ _ (c .put-as2 .ensures) (string-done-on r f m a rest _ _ _ _ _ _ t _ (c .before .before .before .before .before .before .before .before .before .before .before .before .before .before .before .read-node .ensures) _ _ _ _ _ _ (c .before .before .before .before .before .before .before .before .before .before .before .before .before .node2 .given .1) (handed r f m a rest _ _ _ _ _ _ t _ (c .before .before .before .before .before .before .before .before .before .before .before .before .before .before .before .read-node .ensures) _ (inside-text r f m a rest _ _ _ _ _ _ t _ (c .before .before .before .before .before .before .before .before .before .before .before .before .before .before .before .read-node .ensures) _ (c .before .before .before .before .before .before .before .before .before .before .before .before .before .node2 .given .1))) (c .before .before .before .before .before .before .before .put-string .ensures _ _ _ (string-open-on r f m a rest _ _ _ _ _ _ t _ (c .before .before .before .before .before .before .before .before .before .before .before .before .before .before .before .read-node .ensures) _ _ (c .before .before .before .before .before .before .before .before .before .before .before .before .before .node2 .given .1) (handed r f m a rest _ _ _ _ _ _ t _ (c .before .before .before .before .before .before .before .before .before .before .before .before .before .before .before .read-node .ensures) _ (inside-text r f m a rest _ _ _ _ _ _ t _ (c .before .before .before .before .before .before .before .before .before .before .before .before .before .before .before .read-node .ensures) _ (c .before .before .before .before .before .before .before .before .before .before .before .before .before .node2 .given .1))))))
 
 -- src/lib.rt:56:1
 same-length-4 : tie.Need-same-length-4
@@ -183,7 +185,7 @@ same-length-6 c = search needs
 
 -- src/lib.rt:56:1
 returns-3 : tie.Need-returns-3
-returns-3 c = ?
+returns-3 c = λ r f m a rest t. answered r m a _ _ _ _ _ _ _ _ (c .put-as3 .ensures) (symbol-done-on r f m a rest _ _ _ _ _ _ t _ (c .before .before .before .before .before .before .before .before .before .before .before .before .before .before .before .read-node .ensures) _ _ _ _ _ _ (c .before .before .before .before .before .before .before .before .before .before .before .before .before .node3 .given .1) (handed r f m a rest _ _ _ _ _ _ t _ (c .before .before .before .before .before .before .before .before .before .before .before .before .before .before .before .read-node .ensures) _ (inside-text r f m a rest _ _ _ _ _ _ t _ (c .before .before .before .before .before .before .before .before .before .before .before .before .before .before .before .read-node .ensures) _ (c .before .before .before .before .before .before .before .before .before .before .before .before .before .node3 .given .1))) (c .before .before .before .before .before .before .before .put-symbol .ensures _ _ _ (symbol-open-on r f m a rest _ _ _ _ _ _ t _ (c .before .before .before .before .before .before .before .before .before .before .before .before .before .before .before .read-node .ensures) _ _ (c .before .before .before .before .before .before .before .before .before .before .before .before .before .node3 .given .1) (handed r f m a rest _ _ _ _ _ _ t _ (c .before .before .before .before .before .before .before .before .before .before .before .before .before .before .before .read-node .ensures) _ (inside-text r f m a rest _ _ _ _ _ _ t _ (c .before .before .before .before .before .before .before .before .before .before .before .before .before .before .before .read-node .ensures) _ (c .before .before .before .before .before .before .before .before .before .before .before .before .before .node3 .given .1))))))
 
 -- src/lib.rt:56:1
 same-length-7 : tie.Need-same-length-7
@@ -199,27 +201,27 @@ same-length-9 c = search needs
 
 -- src/lib.rt:56:1
 returns-4 : tie.Need-returns-4
-returns-4 c = ?
+returns-4 c = λ r f m a rest t. answered r m a _ _ _ _ _ _ _ _ (c .put-as4 .ensures) (ident-done-on r f m a rest _ _ _ _ _ _ t _ (c .before .before .before .before .before .before .before .before .before .before .before .before .before .before .before .read-node .ensures) _ _ _ _ _ _ _ (c .before .before .before .before .before .before .before .before .before .before .before .before .before .node4 .given .1) (handed r f m a rest _ _ _ _ _ _ t _ (c .before .before .before .before .before .before .before .before .before .before .before .before .before .before .before .read-node .ensures) _ (inside-text r f m a rest _ _ _ _ _ _ t _ (c .before .before .before .before .before .before .before .before .before .before .before .before .before .before .before .read-node .ensures) _ (c .before .before .before .before .before .before .before .before .before .before .before .before .before .node4 .given .1))) (c .before .before .before .before .before .before .before .put-symbol2 .ensures _ _ _ (ident-open-on r f m a rest _ _ _ _ _ _ t _ (c .before .before .before .before .before .before .before .before .before .before .before .before .before .before .before .read-node .ensures) _ _ _ (c .before .before .before .before .before .before .before .before .before .before .before .before .before .node4 .given .1) (handed r f m a rest _ _ _ _ _ _ t _ (c .before .before .before .before .before .before .before .before .before .before .before .before .before .before .before .read-node .ensures) _ (inside-text r f m a rest _ _ _ _ _ _ t _ (c .before .before .before .before .before .before .before .before .before .before .before .before .before .before .before .read-node .ensures) _ (c .before .before .before .before .before .before .before .before .before .before .before .before .before .node4 .given .1))))))
 
 -- src/lib.rt:56:1
 returns-5 : tie.Need-returns-5
-returns-5 c = ?
+returns-5 c = λ r f m a rest t. answered r m a _ _ _ _ _ _ _ _ (c .put-as5 .ensures) (ref-done r f m a rest _ _ _ _ _ _ t _ (c .before .before .before .before .before .read-node .ensures) _ _ (c .before .before .before .node5 .given .1) (c .before .slot-of .ensures))
 
 -- src/lib.rt:56:1
 returns-6 : tie.Need-returns-6
-returns-6 c = ?
+returns-6 c = λ r f m a rest t. never-pair r f m a rest _ _ _ _ _ _ t _ (c .before .before .before .read-node .ensures) (c .before .enum-told .given .1)
 
 -- src/lib.rt:56:1
 returns-7 : tie.Need-returns-7
-returns-7 c = ?
+returns-7 c = λ r f m a rest t. never-vector r f m a rest _ _ _ _ _ _ t _ (c .before .before .before .read-node .ensures) _ (c .before .enum-told2 .given .1)
 
 -- src/lib.rt:56:1
 returns-8 : tie.Need-returns-8
-returns-8 c = ?
+returns-8 c = λ r f m a rest t. never-label r f m a rest _ _ _ _ _ _ t _ (c .before .before .before .read-node .ensures) _ (c .before .enum-told3 .given .1)
 
 -- src/lib.rt:56:1
 returns-9 : tie.Need-returns-9
-returns-9 c = ?
+returns-9 c = λ r f m a rest t. never-faulty r f m a rest _ _ _ _ _ _ t _ (c .before .before .before .read-node .ensures) _ (c .before .enum-told4 .given .1)
 
 pub put-atom-spec : {M : Type 1} → statement M
 put-atom-spec =
