@@ -169,6 +169,14 @@ able-room r f m b e a =
 pub able-bytes : (r : Rooms) (f : ℕ) (m : Making) (t : List ℕ) → Able r f m → Able r f (making (with-bytes (m .heap) t) (m .labels))
 able-bytes r f m t a = able-room r f m (m .heap .bytes ++ t) (m .heap .elements) a
 
+-- a block more, another element
+pub able-block : (r : Rooms) (f : ℕ) (m : Making) (n : ℕ) → Able r f m → Able r f (with-block n m)
+able-block r f m n a = able-room r f m (m .heap .bytes) (m .heap .elements ++ replicate n (scalar undefined)) a
+
+pub able-element : (r : Rooms) (f : ℕ) (k : ℕ) (p : Put) → Able r f (p .making) → Able r f (store-at k p)
+able-element r f k p a =
+    able-room r f (p .making) (p .making .heap .bytes) (set (p .making .heap .elements) k (p .value)) a
+
 -- an entry more, whose slot is below the capacity, while fewer entries than used slots stood
 able-entry : (r : Rooms) (f : ℕ) (m : Making) (e : Entry) → Able r f m → e .slot < capacity (m .heap) → length (m .heap .table) < used-count (m .heap) → Able r f (making (with-entry (m .heap) e) (m .labels))
 unfolding basics

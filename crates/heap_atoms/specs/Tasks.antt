@@ -64,6 +64,15 @@ pub record SlotDone (r : Rooms) (m : Making) (t : Datum) (slot size count : ℕ)
   pub slot-is : slot ≡ slot-in (in-slot (put t m))
   pub size-is : size ≡ length (encode t)
 
+-- a tree to be put as the element at a place
+pub record ElementTask (r : Rooms) (f : ℕ) (m : Making) (t : Datum) (rest : List ℕ) (place count : ℕ) (datum words map bytes elems labels : List ℕ) : Type 0 where
+  pub task : Task r f m t rest count datum words map bytes elems labels
+  pub room : place < length (m .heap .elements)
+
+pub record ElementDone (r : Rooms) (m : Making) (t : Datum) (place size count : ℕ) (words map bytes elems labels : List ℕ) : Type 0 where
+  pub stands : Stands r (store-at place (put t m)) count words map bytes elems labels
+  pub size-is : size ≡ length (encode t)
+
 -- data for the elements from place k on
 abbrev pub encode-all : Data → List ℕ
 encode-all ds = join write-node (all-nodes ds)
