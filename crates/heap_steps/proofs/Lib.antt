@@ -1,2 +1,4 @@
 pub mod Sizes
 pub mod CellSteps
+pub mod SymbolSteps
+pub mod PlaceSteps

@@ -31,6 +31,7 @@ pub record Sized (h : Heap) : Type 0 where
 -- what stays and what grows when a slot is given
 pub record Taken (h : Heap) (g : Given) : Type 0 where
   pub sized : Sized (g .heap)
+  pub capacity-grows : capacity h ≤ capacity (g .heap)
   pub used : used-count (g .heap) ≡ used-count h + 1
   pub chunk : g .heap .chunk ≡ h .chunk
   pub bytes : g .heap .bytes ≡ h .bytes
@@ -43,6 +44,7 @@ pop-taken h z t =
     subst (λ (g : Given). Taken h g) (sym (pop-is h t))
     (record {
       sized = record { positive = z .positive; whole = z .whole; some = z .some; free-size = omega (arith, z .free-size) };
+      capacity-grows = omega arith;
       used = omega (arith, z .free-size);
       chunk = refl;
       bytes = refl;
@@ -99,6 +101,7 @@ alloc-taken h z =
           subst (λ (g : Given). Taken h g) (sym (alloc-empty h gone))
           (record {
             sized = t .sized;
+            capacity-grows = omega (arith, t .capacity-grows, above h z gone, grown-capacity h z gone);
             used = t .used ∙ ap (λ (n : ℕ). n + 1) (grow-used h z gone);
             chunk = t .chunk;
             bytes = t .bytes;
@@ -111,6 +114,7 @@ alloc-taken h z =
 
 pub record Larger (a b : Making) : Type 0 where
   pub sized : Sized (b .heap)
+  pub capacity-grows : capacity (a .heap) ≤ capacity (b .heap)
   pub used : used-count (a .heap) ≤ used-count (b .heap)
   pub chunk : b .heap .chunk ≡ a .heap .chunk
   pub bytes : length (a .heap .bytes) ≤ length (b .heap .bytes)
@@ -120,12 +124,13 @@ pub record Larger (a b : Making) : Type 0 where
 pub larger-same : (a : Making) → Sized (a .heap) → Larger a a
 larger-same a z =
     record
-    { sized = z; used = omega arith; chunk = refl; bytes = omega arith; elements = omega arith; labels = omega arith }
+    { sized = z; capacity-grows = omega arith; used = omega arith; chunk = refl; bytes = omega arith; elements = omega arith; labels = omega arith }
 
 pub larger-on : {a b c : Making} → Larger a b → Larger b c → Larger a c
 larger-on p q =
     record {
       sized = q .sized;
+      capacity-grows = omega (arith, p .capacity-grows, q .capacity-grows);
       used = omega (arith, p .used, q .used);
       chunk = q .chunk ∙ p .chunk;
       bytes = omega (arith, p .bytes, q .bytes);
@@ -150,6 +155,7 @@ module _ (m : Making) (z : Sized (m .heap)) where
               some = omega (arith, t .sized .some);
               free-size = omega (arith, t .sized .free-size);
             };
+        capacity-grows = omega (arith, t .capacity-grows);
         used = omega (arith, t .used);
         chunk = t .chunk;
         bytes = omega (arith, ap length (t .bytes));
@@ -162,6 +168,7 @@ larger-room : (m : Making) (b : List ℕ) (e : List Value) (t : List Entry) → 
 larger-room m b e t z p q =
     record {
       sized = record { positive = z .positive; whole = z .whole; some = z .some; free-size = z .free-size };
+      capacity-grows = omega arith;
       used = omega arith;
       chunk = refl;
       bytes = p;
@@ -180,6 +187,7 @@ larger-cell m s c z =
             some = omega (arith, z .some);
             free-size = omega (arith, z .free-size);
           };
+      capacity-grows = omega arith;
       used = omega arith;
       chunk = refl;
       bytes = omega arith;
@@ -258,6 +266,7 @@ labelled-larger l m z =
     let g = alloc (m .heap) in
     record {
       sized = t .sized;
+      capacity-grows = t .capacity-grows;
       used = omega (arith, t .used);
       chunk = t .chunk;
       bytes = omega (arith, ap length (t .bytes));
