@@ -16,7 +16,7 @@ use Rattle.rules.specs.Datum.{Datum, Data, atom, end, more, how-many}
 use Rattle.rules.specs.Heap.{Heap, Entry, Given, capacity, used-count, free-count, alloc, found, fitting, most-growths, with-cell, with-element, with-bytes, with-elements, with-entry, block-after, heap-rules}
 use Rattle.rules.specs.Layout.{Rooms}
 use Rattle.rules.specs.Put.{Label, Making, Put, making, put-as, new-cell, in-slot, slot-in, put-string, make-symbol, put-symbol, with-label, slot-of, begin-label, labelled, end-label, with-block, store-at, put-atom, put, put-all, put-rules}
-use Rattle.leaf_free.proofs.Growth.{Whole, fitting-least, fitting-most}
+use Rattle.rules.proofs.Growth.{Whole, fitting-least, fitting-most}
 use Rattle.leaf_free.proofs.Allocating.{Growing, Room, available, room, alloc-growing, alloc-used, alloc-available}
 use Rattle.leaf_free.proofs.TakenSlot.{TakenFrom, alloc-taken}
 use Rattle.heap_steps.proofs.CellSteps.{sized-of}

@@ -15,7 +15,7 @@ use Rattle.rules.specs.Nodes.{Atom}
 use Rattle.rules.specs.Datum.{Datum, Data, atom, end, more, how-many}
 use Rattle.rules.specs.Heap.{Heap, Entry, Given, capacity, used-count, free-count, grow, pop, alloc, found, with-cell, with-element, with-bytes, with-elements, with-entry, block-after, heap-rules}
 use Rattle.rules.specs.Put.{Label, Making, Put, making, put-as, new-cell, in-slot, slot-in, put-string, make-symbol, put-symbol, with-label, slot-of, begin-label, labelled, end-label, with-block, store-at, put-atom, put, put-all, put-datum, put-rules}
-use Rattle.leaf_free.proofs.Growth.{Whole, grown-whole, rises}
+use Rattle.rules.proofs.Growth.{Whole, grown-whole, rises}
 use Rattle.leaf_free.proofs.Allocating.{Next, Filled, next, empty, free-or-not, pop-is, alloc-next, alloc-empty}
 use Rattle.leaf_free.proofs.FreeWords.{goal}
 

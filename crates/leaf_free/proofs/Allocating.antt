@@ -21,7 +21,7 @@ use Rattle.rules.specs.Layout.{words-of, map-bytes, filled}
 use Rattle.rules.proofs.LentLaws.{words-length, filled-length}
 use Rattle.rules.proofs.TwoBits.{set-state-length, state-past}
 use Rattle.leaf_free.specs.FreeList.{count-of, grown-words, popped, top, ready, CanGrow, CanPop, CanAlloc, Popped}
-use Rattle.leaf_free.proofs.Growth.{Whole, grown-whole, rises, fitting-end, fitting-grown, fitting-least}
+use Rattle.rules.proofs.Growth.{Whole, grown-whole, rises, fitting-end, fitting-grown, fitting-least}
 use Rattle.leaf_free.proofs.Steps.{ready-empty, ready-already}
 use Rattle.leaf_free.proofs.FreeWords.{goal, chunk-word, capacity-word, count-word, goal-word, grow-words, top-word, pop-words}
 use Rattle.leaf_free.proofs.FreeMap.{filled-zeros, filled-state}

@@ -13,7 +13,7 @@ use Rattle.rules.specs.Cells.{Cell, plain, undefined}
 use Rattle.rules.specs.Heap.{Heap, fresh}
 use Rattle.rules.specs.Layout.{header-words, words-of, cell-words, map-bytes, filled, layout-rules}
 use Rattle.leaf_free.specs.FreeList.{fallen, fresh-words, CanStart}
-use Rattle.leaf_free.proofs.Growth.{Whole, one-whole}
+use Rattle.rules.proofs.Growth.{Whole, one-whole}
 use Rattle.leaf_free.proofs.Written.{Written, heads-of, rows-of, written-again, head-stored, rows-renamed}
 use Rattle.leaf_free.proofs.FreeWords.{with-free, push-words, same-cells}
 use Rattle.leaf_free.proofs.FreeMap.{filled-zeros}

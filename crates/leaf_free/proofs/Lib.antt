@@ -1,4 +1,3 @@
-pub mod Growth
 pub mod Steps
 pub mod Written
 pub mod FreeWords

@@ -16,7 +16,7 @@ use Rattle.rules.specs.Numbers.{chunk-allowed, numbers}
 use Rattle.rules.specs.Heap.{capacity, grown, reaches, most-growths}
 use Rattle.rules.specs.Layout.{Lent, rooms-of, map-bytes, whole-rooms, header, heap-of}
 use Rattle.rules.specs.Sound.{Sound, setup-numbers, counts-within, capacity-grown, free-once}
-use Rattle.leaf_free.proofs.Growth.{Whole, one-whole, grown-whole, rises}
+use Rattle.rules.proofs.Growth.{Whole, one-whole, grown-whole, rises}
 use Rattle.leaf_free.proofs.Allocating.{Growing}
 
 -- a size that growth reaches is whole chunks, and not 0

@@ -16,7 +16,7 @@ use Rattle.rules.specs.Cells.{plain, undefined}
 use Rattle.rules.specs.Heap.{Heap, Given, capacity, cell-at, in-use, reaches, most-growths, grow, pop, alloc}
 use Rattle.rules.specs.Sound.{is-free, is-undefined, free-once, free-undefined, states-settled, capacity-grown}
 use Rattle.rules.proofs.TwoBits.{state-past, state-same, state-other}
-use Rattle.leaf_free.proofs.Growth.{reaches-grown}
+use Rattle.rules.proofs.Growth.{reaches-grown}
 use Rattle.leaf_free.proofs.FreeWords.{goal, same-cells}
 use Rattle.leaf_free.proofs.Allocating.{Growing, Room, Next, next, empty, free-or-not, taken, pop-is, alloc-next, alloc-empty, alloc-growing, grow-growing, grow-next, goal-above, grown-size, grown-free, grown-above, next-below, next-in-map}
 

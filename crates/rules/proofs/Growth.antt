@@ -9,6 +9,7 @@ use native.Mathlib.Omega.{arith}
 use native.Mathlib.Decide.{decLe, decLt}
 use borrow.Author.Tests.{le-leb, lt-leb, eqb-true, eq-eqb, ne-eqb}
 use lib.Dec.{eqb}
+use Rattle.laws.specs.Basics.{either}
 use Rattle.laws.proofs.Tests.{either-cases, either-right}
 use Rattle.rules.specs.Heap.{grown, fitting, reaches, most-growths}
 
@@ -265,13 +266,13 @@ few chunk size c l r =
           absurd (omega (arith, reached-steps chunk size (omega arith) r))
     ]
 
-reaches-grown : (n j chunk size : ℕ) → reaches (n + j) chunk (grown-by n chunk size) size ≡ true
+reaches-grown-by : (n j chunk size : ℕ) → reaches (n + j) chunk (grown-by n chunk size) size ≡ true
 unfolding grown-by reaches
-reaches-grown zero j chunk size = reaches-here chunk size (0 + j) size refl
-reaches-grown (suc n) j chunk size =
+reaches-grown-by zero j chunk size = reaches-here chunk size (0 + j) size refl
+reaches-grown-by (suc n) j chunk size =
     let e : suc n + j ≡ suc (n + j) = omega arith in
     ap (λ (x : ℕ). reaches x chunk (grown-by (suc n) chunk size) size) e
-    ∙ either-right (eqb size (grown-by (suc n) chunk size)) (reaches-grown n j chunk (grown chunk size))
+    ∙ either-right (eqb size (grown-by (suc n) chunk size)) (reaches-grown-by n j chunk (grown chunk size))
 
 -- "growth reaches the capacity", both ways
 pub reached-reaches : (chunk size : ℕ) → 4 ≤ chunk → size ≤ 4096 → Reached chunk size → reaches most-growths chunk size chunk ≡ true
@@ -279,7 +280,7 @@ reached-reaches chunk size c l r =
     let k = most-growths - r .times in
     let e : most-growths ≡ r .times + k = omega (arith, few chunk size c l r) in
     ap (λ (x : ℕ). reaches x chunk size chunk) e ∙ ap (λ (x : ℕ). reaches (r .times + k) chunk x chunk) (r .is)
-    ∙ reaches-grown (r .times) k chunk chunk
+    ∙ reaches-grown-by (r .times) k chunk chunk
 
 pub reaches-reached : (n chunk goal size : ℕ) → Reached chunk size → reaches n chunk goal size ≡ true → Reached chunk goal
 unfolding reaches
@@ -296,3 +297,43 @@ fours chunk size f w =
     let c : chunk ≡ 4 * q = omega arith in
     let e : size ≡ 4 * (w .chunks * q) = w .is ∙ ap (λ (n : ℕ). w .chunks * n) c ∙ mul-left-comm (w .chunks) 4 q in
     omega arith
+
+either-none : (b : Bool) → either b false ≡ b
+either-none true = refl
+either-none false = refl
+
+-- ---- "growth reaches the capacity" after growing too
+
+reaches-more : (n chunk goal size : ℕ) → reaches n chunk goal size ≡ true → reaches (suc n) chunk (grown chunk goal) size ≡ true
+unfolding reaches
+reaches-more zero chunk goal size e =
+    either-right (eqb size (grown chunk goal))
+    (eq-eqb (grown chunk size) (grown chunk goal) (ap (grown chunk) (eqb-true size goal e)))
+reaches-more (suc n) chunk goal size e =
+    either-right (eqb size (grown chunk goal))
+    (⊎-elim
+    (λ here. reaches-here chunk (grown chunk goal) (suc n) (grown chunk size) (ap (grown chunk) (eqb-true size goal here)))
+    (λ later. reaches-more n chunk goal (grown chunk size) later) (either-cases (eqb size goal) _ e))
+
+-- where one step more passes the goal, it changes nothing
+reaches-enough : (chunk goal : ℕ) → 0 < chunk → (n k : ℕ) → goal < steps (suc n) k * chunk → reaches (suc n) chunk goal (k * chunk) ≡ reaches n chunk goal (k * chunk)
+unfolding reaches steps
+reaches-enough chunk goal p zero k h =
+    ap (either (eqb (k * chunk) goal)) (ne-eqb (grown chunk (k * chunk)) goal (λ e. omega (arith, grown-chunks chunk k p)))
+    ∙ either-none (eqb (k * chunk) goal)
+reaches-enough chunk goal p (suc n) k h =
+    ap (either (eqb (k * chunk) goal))
+    (subst (λ (size : ℕ). reaches (suc n) chunk goal size ≡ reaches n chunk goal size) (sym (grown-chunks chunk k p))
+    (reaches-enough chunk goal p n (more k) h))
+
+all-pass : 1025 ≤ steps 33 1
+unfolding steps
+all-pass = omega arith
+
+pub reaches-grown : (chunk size : ℕ) → 4 ≤ chunk → grown chunk size ≤ 4096 → reaches most-growths chunk size chunk ≡ true → reaches most-growths chunk (grown chunk size) chunk ≡ true
+reaches-grown chunk size c small e =
+    let one : 1 * chunk ≡ chunk = omega arith in
+    let long : 1025 * 4 ≤ steps 33 1 * chunk = mul-le-mul all-pass c in
+    sym (subst (λ (n : ℕ). reaches 33 chunk (grown chunk size) n ≡ reaches 32 chunk (grown chunk size) n) one
+    (reaches-enough chunk (grown chunk size) (omega arith) 32 1 (omega arith)))
+    ∙ reaches-more 32 chunk size chunk e

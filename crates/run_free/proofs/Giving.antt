@@ -11,7 +11,7 @@ use Rattle.rules.specs.Heap.{Heap, alloc, fresh, fitting, most-growths}
 use Rattle.rules.specs.Layout.{words-of, map-bytes, filled}
 use Rattle.rules.proofs.LentLaws.{words-length}
 use Rattle.leaf_free.specs.FreeList.{ready, fresh-words, CanStart, CanAlloc, Popped}
-use Rattle.leaf_free.proofs.Growth.{one-whole, fitting-least}
+use Rattle.rules.proofs.Growth.{one-whole, fitting-least}
 use Rattle.leaf_free.proofs.Allocating.{Growing, Room, available, room, can-alloc, alloc-given, alloc-growing, alloc-available, lent-map-length}
 use Rattle.leaf_free.proofs.FreshWords.{can-start, fresh-given, fresh-map, fresh-growing}
 

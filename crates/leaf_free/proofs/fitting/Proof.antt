@@ -3,7 +3,7 @@ use mathlib.Core.Path.{_≡_, sym, _∙_}
 use Prim.Native.Nat.{_≤_}
 use native.Mathlib.Omega.{arith}
 use Rattle.rules.specs.Heap.{fitting, most-growths}
-use Rattle.leaf_free.proofs.Growth.{fitting-step, fitting-end, fitting-none}
+use Rattle.rules.proofs.Growth.{fitting-step, fitting-end, fitting-none}
 use borrow.Author.Needs.{needs}
 use Rattle.leaf_free.proofs.fitting.Statement.{statement}
 use Rattle.leaf_free.proofs.fitting.Tie as tie

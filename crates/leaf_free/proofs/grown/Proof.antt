@@ -2,7 +2,7 @@
 use mathlib.Core.Path.{refl}
 use native.Mathlib.Omega.{arith}
 use Rattle.rules.specs.Heap.{grown}
-use Rattle.leaf_free.proofs.Growth.{chunks-small, grown-small}
+use Rattle.rules.proofs.Growth.{chunks-small, grown-small}
 use borrow.Author.Needs.{needs}
 use Rattle.leaf_free.proofs.grown.Statement.{statement}
 use Rattle.leaf_free.proofs.grown.Tie as tie

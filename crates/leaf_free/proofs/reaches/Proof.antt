@@ -1,7 +1,7 @@
 -- `leaf_free::reaches`: what is left to reach is what was to reach, and a size that passed the goal stays past it. Assumes nothing.
 use mathlib.Core.Path.{_≡_, refl, sym, _∙_}
 use Rattle.rules.specs.Heap.{reaches, most-growths}
-use Rattle.leaf_free.proofs.Growth.{Whole, one-whole, whole-again, reaches-step, reaches-end, reaches-none}
+use Rattle.rules.proofs.Growth.{Whole, one-whole, whole-again, reaches-step, reaches-end, reaches-none}
 use borrow.Author.Needs.{needs}
 use Rattle.leaf_free.proofs.reaches.Statement.{statement}
 use Rattle.leaf_free.proofs.reaches.Tie as tie
