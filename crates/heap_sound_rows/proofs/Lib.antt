@@ -1,2 +1,4 @@
 pub mod NumberLaws
 pub mod RowLaws
+pub mod HeapFacts
+pub mod WrittenLaws

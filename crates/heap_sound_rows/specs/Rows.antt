@@ -2,7 +2,7 @@
 -- nothing.
 use mathlib.Core.Bool.{Bool}
 use mathlib.Core.List.{List, [], _∷_}
-use Prim.Native.Nat.{ℕ, _+_, _*_, _/_, _%_}
+use Prim.Native.Nat.{ℕ, _+_, _-_, _*_, _/_, _%_}
 use lib.Dec.{eqb, leb, ltb}
 use lib.ListN.{length, getD}
 use Rattle.laws.specs.Basics.{choose, both, either, every-below, same, basics}
@@ -15,6 +15,11 @@ lists w m b e = record { words = w; map = m; bytes = b; elems = e }
 
 abbrev pub is-zero : ℕ → Bool
 is-zero n = eqb n 0
+
+-- what stands from a place on is zero
+unfoldable pub spare-zero : ℕ → List ℕ → Bool
+unfolding basics
+spare-zero from l = every-below (length l - from) (λ i. is-zero (getD l (from + i) 0))
 
 -- the four states of a byte are Free or Allocated
 unfoldable pub byte-settled : ℕ → Bool

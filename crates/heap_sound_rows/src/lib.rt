@@ -1,6 +1,7 @@
 // The lists that a caller lends, looked at word by word: the numbers and counts, the states, and that what is not in use is
 // zero and every kind is known. Document 01, "A heap is sound when": "the numbers above", "no state is Used or 3", "spare
 // room is zero"; and 11's rules on kinds. Nothing is changed.
+ghost use mathlib.Core.Bool.{true};
 ghost use mathlib.Core.Path.{_≡_};
 ghost use mathlib.Core.List.{[], _∷_};
 ghost use Prim.Native.Nat.{_+_, _-_, _*_, _/_, _≤_, _<_};
@@ -8,8 +9,8 @@ ghost use lib.Dec.{ltb};
 ghost use lib.ListN.{length, getD};
 ghost use Rattle.laws.specs.Basics.{either, same, every-below};
 ghost use Rattle.rules.specs.Layout.{cell-words, cell-from, value-words, value-from};
-ghost use Rattle.rules.specs.Sound.{setup-numbers, counts-within};
-ghost use Rattle.heap_sound_rows.specs.Rows.{lists, is-zero, byte-settled, settled, cell-kept, columns-kept, row-kept, element-kept};
+ghost use Rattle.rules.specs.Sound.{setup-numbers, counts-within, written-out};
+ghost use Rattle.heap_sound_rows.specs.Rows.{lists, is-zero, spare-zero, byte-settled, settled, cell-kept, columns-kept, row-kept, element-kept};
 
 // "the numbers above", as setup has them: whole slots and whole elements, the rooms within their bounds, the chunk allowed.
 pub fn numbers(words: &[u64], map: &[u8], bytes: &[u8], elems: &[u64], chunk: u64) -> bool
@@ -107,14 +108,15 @@ pub fn settled(map: &[u8]) -> bool
     true
 }
 
-// "spare room is zero", of bytes.
-pub fn zero_bytes(s: &[u8]) -> bool
-    ensures { λ r. ⌜ r ≡ every-below (length (now (s .entry))) (λ i. is-zero (getD (now (s .entry)) i 0)) ⌝ }
+// "spare room is zero", of bytes: all from a place on are.
+pub fn zero_bytes(s: &[u8], from: usize) -> bool
+    requires { ⌜ from ≤ length (now s) ⌝ }
+    ensures { λ r. ⌜ r ≡ spare-zero from (now (s .entry)) ⌝ }
 {
-    let mut i = s.len();
+    let mut i = s.len() - from;
     while 0 < i {
         i -= 1;
-        if s[i] != 0 {
+        if s[from + i] != 0 {
             return false;
         }
     }
@@ -122,13 +124,14 @@ pub fn zero_bytes(s: &[u8]) -> bool
 }
 
 // "spare room is zero", of words.
-pub fn zero_words(s: &[u64]) -> bool
-    ensures { λ r. ⌜ r ≡ every-below (length (now (s .entry))) (λ i. is-zero (getD (now (s .entry)) i 0)) ⌝ }
+pub fn zero_words(s: &[u64], from: usize) -> bool
+    requires { ⌜ from ≤ length (now s) ⌝ }
+    ensures { λ r. ⌜ r ≡ spare-zero from (now (s .entry)) ⌝ }
 {
-    let mut i = s.len();
+    let mut i = s.len() - from;
     while 0 < i {
         i -= 1;
-        if s[i] != 0 {
+        if s[from + i] != 0 {
             return false;
         }
     }
@@ -244,4 +247,34 @@ pub fn elements_kept(elems: &[u64], n: usize) -> bool
         }
     }
     true
+}
+
+// The lists are what the layout writes for the heap that they hold: "spare room is zero", and every kind is known.
+pub fn written(words: &[u64], map: &[u8], bytes: &[u8], elems: &[u64]) -> bool
+    requires { ⌜ setup-numbers (getD (now words) 0 0) (lists (now words) (now map) (now bytes) (now elems)) ≡ true ⌝ }
+    requires { ⌜ counts-within (lists (now words) (now map) (now bytes) (now elems)) ≡ true ⌝ }
+    ensures { λ r. ⌜ r ≡ written-out (lists (now (words .entry)) (now (map .entry)) (now (bytes .entry)) (now (elems .entry))) ⌝ }
+{
+    if words[6] != 1 {
+        return false;
+    }
+    if words[7] != 0 {
+        return false;
+    }
+    let states = words[1] as usize / 4;
+    if !zero_bytes(map, states) {
+        return false;
+    }
+    let texts = words[4] as usize;
+    if !zero_bytes(bytes, texts) {
+        return false;
+    }
+    let values = words[5] as usize;
+    if !elements_kept(elems, values) {
+        return false;
+    }
+    if !zero_words(elems, 3 * values) {
+        return false;
+    }
+    rows_kept(words)
 }
