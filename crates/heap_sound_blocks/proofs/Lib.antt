@@ -1,0 +1,2 @@
+pub mod PaintLaws
+pub mod BlockLaws

@@ -1,0 +1,4 @@
+pub mod NumberLaws
+pub mod RowLaws
+pub mod HeapFacts
+pub mod WrittenLaws
