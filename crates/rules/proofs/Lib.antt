@@ -13,6 +13,7 @@ pub mod Allocate
 pub mod Grows
 pub mod PutCells
 pub mod PutGood
+pub mod PutLabels
 pub mod GoodSound
 pub mod PutSound
 pub mod StoreSound

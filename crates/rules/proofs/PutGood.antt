@@ -109,7 +109,7 @@ either-right-false : (a b : Bool) → either a b ≡ false → b ≡ false
 either-right-false true b e = absurd (true≢false e)
 either-right-false false b e = e
 
-either-left-false : (a b : Bool) → either a b ≡ false → a ≡ false
+pub either-left-false : (a b : Bool) → either a b ≡ false → a ≡ false
 either-left-false true b e = absurd (true≢false e)
 either-left-false false b e = refl
 
@@ -117,7 +117,7 @@ either-left-false false b e = refl
 mutual
   unfolding begun-by begun-all datum-rules
 
-  later : (d : Datum) (begun : List ℕ) (rest : List Node) → refers-early begun (nodes d ++ rest) ≡ false → refers-early (begun-by d begun) rest ≡ false
+  pub later : (d : Datum) (begun : List ℕ) (rest : List Node) → refers-early begun (nodes d ++ rest) ≡ false → refers-early (begun-by d begun) rest ≡ false
   later (Datum.atom (Atom.plain s)) begun rest e = e
   later (Datum.atom (Atom.string t)) begun rest e = e
   later (Datum.atom (Atom.symbol t)) begun rest e = e
@@ -129,7 +129,7 @@ mutual
   later (Datum.vector ds) begun rest e = later-all ds begun rest e
   later (Datum.def l d) begun rest e = later d (l ∷ begun) rest e
 
-  later-all : (ds : Data) (begun : List ℕ) (rest : List Node) → refers-early begun (all-nodes ds ++ rest) ≡ false → refers-early (begun-all ds begun) rest ≡ false
+  pub later-all : (ds : Data) (begun : List ℕ) (rest : List Node) → refers-early begun (all-nodes ds ++ rest) ≡ false → refers-early (begun-all ds begun) rest ≡ false
   later-all end begun rest e = e
   later-all (more d ds) begun rest e =
       later-all ds (begun-by d begun) rest
