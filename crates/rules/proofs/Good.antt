@@ -4,18 +4,18 @@
 -- Document 01, "A heap is sound when". Assumes nothing.
 use mathlib.Core.Path.{_≡_, refl, sym, ap, _∙_, subst}
 use mathlib.Core.Bool.{Bool, true, false, not}
-use mathlib.Core.List.{List, [], _∷_, map}
+use mathlib.Core.List.{List, [], _∷_, _++_, map}
 use mathlib.Core.Logic.{⊎-elim}
 use Prim.Native.Nat.{ℕ, zero, suc, _+_, _-_, _/_, _%_, _≤_, _<_}
 use native.Mathlib.Omega.{arith}
 use native.Mathlib.Decide.{decLt, ℕ-discrete}
 use borrow.Author.Tests.{ltb-true, leb-true, eqb-true, lt-ltb, le-leb, eq-eqb, ne-eqb}
 use lib.Dec.{T, eqb, leb, ltb}
-use lib.ListN.{length, getD, length-map, List·getD-eq-default}
+use lib.ListN.{length, getD, length-map, length-append, List·getD-eq-default}
 use Rattle.laws.specs.Basics.{choose, either, every, count, basics}
-use Rattle.laws.proofs.Tests.{true≢false, both-left, both-right, both-true, either-cases, either-left, either-right, below-all, all-below}
+use Rattle.laws.proofs.Tests.{true≢false, both-left, both-right, both-true, either-cases, either-left, either-right, below-all, all-below, every-append}
 use Rattle.laws.proofs.Sums.{sum-below, length-by-count}
-use Rattle.laws.proofs.Pointwise.{every-all, all-every, every-at, count-past, count-here, count-other, past-count, getD-part, length-part}
+use Rattle.laws.proofs.Pointwise.{every-all, all-every, every-at, count-past, count-here, count-other, count-append, past-count, getD-part, length-part}
 use Rattle.rules.specs.Map.{state-of, is-allocated, map-rules}
 use Rattle.rules.specs.Cells.{undefined, nil, eof, void, bool, char, number, Value, slot, scalar, Block, block, Cell, plain, pair, symbol, string, vector}
 use Rattle.rules.specs.Heap.{Heap, Entry, capacity, cell-at, in-use, elements-of, most-growths}
@@ -355,23 +355,54 @@ getD-slots [] i = refl
 getD-slots (e ∷ t) zero = refl
 getD-slots (e ∷ t) (suc i) = getD-slots t i
 
-pub table-most : (h : Heap) → Good h → length (h .table) ≤ capacity h
-unfolding sound-rules entry-at
-table-most h g =
-    let slots = map (λ (e : Entry). e .slot) (h .table) in
-    let size = length-map (h .table) (λ (e : Entry). e .slot) in
-    let below : every (λ x. ltb x (capacity h)) slots ≡ true = all-every (λ x. ltb x (capacity h)) 0 slots
-    (λ i l.
-    ap (λ (x : ℕ). ltb x (capacity h)) (getD-slots (h .table) i)
-    ∙ both-left (ltb (entry-at h i .slot) (capacity h)) _ (both-left (in-use h (entry-at h i .slot)) _ (g .entries i (omega arith))))
-    in
-    let m = each-once (capacity h) slots below
-    (λ k l.
-    differ-once slots
-    (λ i j m n e.
-    true≢false
-    (sym (both-left (not (eqb (entry-at h i .slot) (entry-at h j .slot))) _ (g .differ i j m (omega arith)))
-    ∙ ap not (eq-eqb _ _ (sym (getD-slots (h .table) i) ∙ e ∙ getD-slots (h .table) j))))
-    k)
-    in
-    omega arith
+abbrev entry-slots : Heap → List ℕ
+entry-slots h = map (λ (e : Entry). e .slot) (h .table)
+
+module _ (h : Heap) (g : Good h) where
+  entry-used : (i : ℕ) → i < length (h .table) → in-use h (entry-at h i .slot) ≡ true
+  unfolding sound-rules
+  entry-used i l = both-left (in-use h (entry-at h i .slot)) _ (g .entries i l)
+
+  entries-size : length (entry-slots h) ≡ length (h .table)
+  entries-size = length-map (h .table) (λ (e : Entry). e .slot)
+
+  entries-once : (k : ℕ) → count k (entry-slots h) ≤ 1
+  unfolding sound-rules entry-at
+  entries-once k =
+      differ-once (entry-slots h)
+      (λ i j m n e.
+      true≢false
+      (sym (both-left (not (eqb (entry-at h i .slot) (entry-at h j .slot))) _ (g .differ i j m (omega (arith, entries-size))))
+      ∙ ap not (eq-eqb _ _ (sym (getD-slots (h .table) i) ∙ e ∙ getD-slots (h .table) j))))
+      k
+
+  -- a slot on the free list has no entry
+  entries-none : (k : ℕ) → state-of (h .map) k ≡ 0 → count k (entry-slots h) ≡ 0
+  unfolding entry-at
+  entries-none k z =
+      absent (entry-slots h) k
+      (λ j l e.
+      let u = used-slot h (entry-at h j .slot) (entry-used j (omega (arith, entries-size))) .state in
+      absurd (omega (arith, z, u, ap (state-of (h .map)) (e ∙ getD-slots (h .table) j))))
+
+  -- each entry leads to a slot of its own that is not on the free list
+  pub table-used : length (h .table) + length (h .free) ≤ capacity h
+  unfolding entry-at
+  table-used =
+      let below : every (λ x. ltb x (capacity h)) (entry-slots h) ≡ true = all-every (λ x. ltb x (capacity h)) 0 (entry-slots h)
+      (λ i l.
+      ap (λ (x : ℕ). ltb x (capacity h)) (getD-slots (h .table) i)
+      ∙ lt-ltb _ _ (used-slot h (entry-at h i .slot) (entry-used i (omega (arith, entries-size))) .below))
+      in
+      let m = each-once (capacity h) (entry-slots h ++ h .free)
+      (every-append (λ x. ltb x (capacity h)) (entry-slots h) (h .free) below (past-count (capacity h) (h .free) (g .past)))
+      (λ k l.
+      elim (ℕ-discrete (state-of (h .map) k) 0) [
+        | yes z ↦ omega (arith, count-append k (entry-slots h) (h .free), entries-none k z, g .once k l)
+        | no d ↦ omega (arith, count-append k (entry-slots h) (h .free), entries-once k, g .once k l, d)
+      ])
+      in
+      omega (arith, length-append (entry-slots h) (h .free), entries-size)
+
+  pub table-most : length (h .table) ≤ capacity h
+  table-most = omega (arith, table-used)
