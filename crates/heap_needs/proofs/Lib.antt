@@ -1,0 +1,3 @@
+pub mod Standing
+pub mod Along
+pub mod Taking
