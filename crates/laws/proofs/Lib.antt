@@ -8,3 +8,4 @@ pub mod Zeros
 pub mod Pointwise
 pub mod Sorting
 pub mod Finding
+pub mod Members

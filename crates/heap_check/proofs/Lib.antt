@@ -1,0 +1,3 @@
+pub mod TallyLaws
+pub mod PassLaws
+pub mod StepLaws
