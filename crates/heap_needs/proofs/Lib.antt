@@ -5,3 +5,4 @@ pub mod NameLaws
 pub mod StackLaws
 pub mod CountLaws
 pub mod PassLaws
+pub mod LackLaws

@@ -10,7 +10,19 @@ ghost use mathlib.Core.List.{[]};
 ghost use Rattle.leaf_nodes.specs.Reads.{text-length};
 ghost use Rattle.rules.specs.Datum.{Datum, encode, datum-fits};
 ghost use Rattle.heap_needs.specs.Needs.{met, a-name, symbol-needs, node-needs, need, no-needs};
+ghost use Rattle.heap_needs.specs.Lacks.{Measured, short-of};
 ghost use Rattle.heap_needs.specs.Pass.{names-in, Rows, needs-in, known-in, Lent, node-of, following, flags, Countable, Counted, with-more, Clear, Pushed, Going, Turned, Started, Datum-there, needed};
+
+// Words of the header.
+const CHUNK: usize = 0;
+
+const CAPACITY: usize = 1;
+
+const FREE_COUNT: usize = 2;
+
+const BYTES_USED: usize = 4;
+
+const ELEMENTS_USED: usize = 5;
 
 // What a put will take.
 pub struct Needed {
@@ -249,4 +261,35 @@ pub fn needs(words: &[u64], bytes: &[u8], datum: &[u8]) -> Needed
         bytes: t.bytes,
         elements: t.elements,
     }
+}
+
+// What of it is not there: the slots (16), or else the room of an arena (17).
+pub enum Lack {
+    Nothing,
+    Slots,
+    Room,
+}
+
+// Holds what is needed against the free slots and all growth that fits, then against the room left in the two arenas, of
+// which the lengths are given.
+pub fn short(words: &[u64], needed: Needed, bytes: usize, elements: usize) -> Lack
+    requires { ⌜ Measured (now words) bytes elements ⌝ }
+    ensures { λ r. ⌜ r ≡ short-of (now (words .entry)) needed bytes elements ⌝ }
+{
+    let lent = (words.len() - 8) / 8;
+    let capacity = words[CAPACITY] as usize;
+    let most = leaf_free::fitting(words[CHUNK] as usize, lent, capacity);
+    let free = words[FREE_COUNT] as usize;
+    if free + (most - capacity) < needed.slots {
+        return Lack::Slots;
+    }
+    let text_room = bytes - words[BYTES_USED] as usize;
+    if text_room < needed.bytes {
+        return Lack::Room;
+    }
+    let room = elements - words[ELEMENTS_USED] as usize;
+    if room < needed.elements {
+        return Lack::Room;
+    }
+    Lack::Nothing
 }
