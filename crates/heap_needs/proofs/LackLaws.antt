@@ -1,7 +1,7 @@
 -- 16 and 17 from what was told: the tests of the code are the rules' tests of what the put would come to. Assumes nothing.
 use mathlib.Core.Path.{_≡_, refl, sym, ap, _∙_}
 use mathlib.Core.Bool.{Bool, true, false}
-use mathlib.Core.List.{List}
+use mathlib.Core.List.{List, [], _∷_}
 use mathlib.Core.Option.{Option, none, some}
 use Prim.Native.Nat.{ℕ, _+_, _-_, _≤_, _<_}
 use native.Mathlib.Omega.{arith}
@@ -10,6 +10,7 @@ use lib.Dec.{ltb}
 use lib.ListN.{length}
 use Rattle.laws.specs.Basics.{every}
 use Rattle.laws.proofs.Tests.{both-left}
+use Rattle.rules.specs.Refusals.{Refusal, no-slots, no-room, _⇒_, unless, refusals}
 use Rattle.rules.specs.Datum.{Datum, nodes, node-within, datum-fits, early-reference}
 use Rattle.rules.specs.Heap.{Heap, Entry, capacity, in-use, found, fitting, most-growths}
 use Rattle.rules.specs.Layout.{entry-at, words-of, filled, layout-rules}
@@ -27,7 +28,7 @@ use Rattle.heap_needs.specs.declared.Needed as code
 use Rattle.heap_needs.specs.declared.Lack.the-variants.{Nothing, Slots, Room}
 use Rattle.heap_needs.specs.Needs.{Needs, no-needs, in-table, need, needs-of, needs-rules}
 use Rattle.heap_needs.specs.Pass.{known-in, Lent, needed, pass-rules}
-use Rattle.heap_needs.specs.Lacks.{lent-slots, elements-used, most-slots, first-short, short-of, Measured}
+use Rattle.heap_needs.specs.Lacks.{lent-slots, elements-used, most-slots, first-short, short-of, refusal-of, Measured}
 use Rattle.heap_needs.proofs.Taking.{Needed, put-needs, slots-told, bytes-told, elements-told}
 
 -- ---- the code's answers
@@ -149,3 +150,11 @@ put-short n room bytes elements h d g small f w e =
     ap (λ (known : List ℕ → ℕ → Bool). short-of (words-of n h) (needed (need known true d no-needs)) bytes elements)
     (known-is n h room (table-good n h g small))
     ∙ short-told n bytes elements h (put-datum d h .making .heap) (needs-of h d) (put-needs d h g f w e)
+
+-- the rules' tests in their order, by the code's answer
+pub unless-short : {A : Type 0} (a b c : Bool) (x : A) (refuse : Refusal → A) → unless ((a ⇒ no-slots) ∷ (b ⇒ no-room) ∷ (c ⇒ no-room) ∷ []) x refuse ≡ elim (refusal-of (first-short a b c)) as (λ o. A) [ none ↦ x | some r ↦ refuse r ]
+unfolding refusals
+unless-short true b c x refuse = refl
+unless-short false true c x refuse = refl
+unless-short false false true x refuse = refl
+unless-short false false false x refuse = refl

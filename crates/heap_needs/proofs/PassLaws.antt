@@ -310,9 +310,6 @@ module _ (known : List ℕ → ℕ → Bool) (datum keys stack : List ℕ) (t : 
 pub going-top : {known : List ℕ → ℕ → Bool} {datum keys stack : List ℕ} {t : Tally} → Going known datum keys stack t → t .top ≤ 4096
 going-top g = omega (arith, g .doing .awaited, many-nodes (g .awaits), g .doing .slots)
 
-pub going-at : {known : List ℕ → ℕ → Bool} {datum keys stack : List ℕ} {t : Tally} → Going known datum keys stack t → t .at ≤ length datum
-going-at g = g .doing .inside
-
 -- ---- the whole datum
 
 -- the tree that is counted, and what is left of it

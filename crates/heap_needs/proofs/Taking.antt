@@ -42,15 +42,6 @@ module _ (known : List ℕ → ℕ → Bool) where
   takes-same : (t : Needs) (h : Heap) → Names known (t .names) h → Takes known t t h h
   takes-same t h n = record { slots = refl; bytes = refl; elements = refl; names = n }
 
-  takes-on : {t t' t'' : Needs} {h h' h'' : Heap} → Takes known t t' h h' → Takes known t' t'' h' h'' → Takes known t t'' h h''
-  takes-on p q =
-      record {
-        slots = omega (arith, p .slots, q .slots);
-        bytes = omega (arith, p .bytes, q .bytes);
-        elements = omega (arith, p .elements, q .elements);
-        names = q .names;
-      }
-
   names-on : {s b e : ℕ} {h h' : Heap} (ns : List Name) → Adds s b e h h' → Names known ns h → Names known ns h'
   names-on ns a n text scope = a .names text scope ∙ n text scope
 

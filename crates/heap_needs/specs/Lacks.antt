@@ -2,10 +2,12 @@
 -- arena has less room than needed", from the lent words and the arenas' lengths. Assumes nothing.
 use mathlib.Core.Bool.{Bool}
 use mathlib.Core.List.{List}
+use mathlib.Core.Option.{Option, none, some}
 use Prim.Native.Nat.{ℕ, _+_, _-_, _/_, _≤_, _<_}
 use lib.Dec.{ltb}
 use lib.ListN.{length, getD}
 use Rattle.laws.specs.Basics.{choose}
+use Rattle.rules.specs.Refusals.{Refusal, no-slots, no-room}
 use Rattle.rules.specs.Heap.{fitting, most-growths}
 use Rattle.leaf_free.specs.FreeList.{chunk-of, capacity-of, count-of}
 use Rattle.leaf_symbols.specs.Table.{bytes-used}
@@ -32,6 +34,12 @@ unfoldable pub short-of : List ℕ → Needed → ℕ → ℕ → Lack
 short-of ws n bytes elements =
     first-short (ltb (count-of ws + (most-slots ws - capacity-of ws)) (n .slots)) (ltb bytes (bytes-used ws + n .bytes))
     (ltb elements (elements-used ws + n .elements))
+
+-- the paper's refusal of each case
+abbrev pub refusal-of : Lack → Option Refusal
+refusal-of Nothing = none
+refusal-of Slots = some no-slots
+refusal-of Room = some no-room
 
 -- the numbers of the words are those of a heap within the arenas
 pub record Measured (ws : List ℕ) (bytes elements : ℕ) : Type 0 where
