@@ -105,7 +105,7 @@ module _ (f : ℕ → ℕ) where
   every-column g zero = refl
   every-column g (suc n) = ap (every g) (front n) ∙ ap (both (g (f n))) (every-column g n)
 
-  new-of : (capacity j : ℕ) → f j < capacity → tally f j (f j) ≡ 0 → new-at f capacity j ≡ true
+  pub new-of : (capacity j : ℕ) → f j < capacity → tally f j (f j) ≡ 0 → new-at f capacity j ≡ true
   unfolding new-at
   new-of capacity j p q = both-true (lt-ltb (f j) capacity p) (eq-eqb _ 0 q)
 
