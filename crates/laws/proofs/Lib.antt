@@ -9,3 +9,4 @@ pub mod Pointwise
 pub mod Sorting
 pub mod Finding
 pub mod Members
+pub mod Writing
