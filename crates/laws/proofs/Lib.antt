@@ -10,3 +10,4 @@ pub mod Sorting
 pub mod Finding
 pub mod Members
 pub mod Checks
+pub mod Writing

@@ -1,0 +1,3 @@
+pub mod ReadLaws
+pub mod HexLaws
+pub mod PrintLaws
