@@ -1,0 +1,4 @@
+pub mod OutlineLaws
+pub mod ContentLaws
+pub mod TabledLaws
+pub mod WholeLaws
