@@ -7,7 +7,7 @@ use Prim.Native.Nat.{ℕ, zero, suc, _+_, _-_, _≤_, _<_}
 use native.Mathlib.Decide.{ℕ-discrete}
 use native.Mathlib.Numerals.{add-one}
 use native.Mathlib.Omega.{arith}
-use borrow.Author.Tests.{eq-eqb, ne-eqb}
+use borrow.Author.Tests.{eq-eqb, ne-eqb, eqb-true, eqb-false}
 use lib.Dec.{eqb}
 use lib.ListN.{length, getD, take, drop, length-drop, drop-of-length-le}
 use lib.Seq.{drop-cons, drop-length}
@@ -25,6 +25,12 @@ use Rattle.sheet_lines.specs.declared.Form.the-variants as form
 use Rattle.sheet_lines.specs.Lines.{found, first-from, value-from, place-of, Keyed, no-form, form-at, key-at, form-value, form-number, form-place, FormRead, scoped-at, lines-words}
 
 -- ---- the first place
+
+some-is : {a b : ℕ} → some a ≡ some b → a ≡ b
+some-is e = cc
+
+none-some : {a : ℕ} → none ≡ some a → ⊥
+none-some e = let z : _≡_ {A = ℕ} 0 1 = cc in omega arith
 
 module _ (c : ℕ) (t : List ℕ) (from : ℕ) where
   -- what was to look at is what is left from a place on
@@ -49,6 +55,43 @@ module _ (c : ℕ) (t : List ℕ) (from : ℕ) where
     pub nowhere : length t ≤ i → none ≡ first-from c from (drop from t)
     unfolding lines-words
     nowhere h = sym (now ∙ ap (first-from c i) (drop-of-length-le t h))
+
+-- what a caller may use: the place lies behind where the search began, inside the text, the byte stands there, and nowhere
+-- between
+pub record Placed (c i : ℕ) (cs : List ℕ) (p : ℕ) : Type 0 where
+  pub from : i ≤ p
+  pub inside : p < i + length cs
+  pub there : getD cs (p - i) 0 ≡ c
+  pub none-before : (k : ℕ) → k < p - i → getD cs k 0 ≡ c → ⊥
+
+pub placed : (c i : ℕ) (cs : List ℕ) (p : ℕ) → first-from c i cs ≡ some p → Placed c i cs p
+unfolding lines-words
+placed c i [] p e = absurd (none-some e)
+placed c i (x ∷ cs) p e = by (eqb x c) refl e (λ q. placed c (suc i) cs p q)
+  where
+    by : (b : Bool) → eqb x c ≡ b → _≡_ {A = Option ℕ} (elim b [ true ↦ some i | false ↦ first-from c (suc i) cs ]) (some p) → (first-from c (suc i) cs ≡ some p → Placed c (suc i) cs p) → Placed c i (x ∷ cs) p
+    by true q e again =
+        let s : i ≡ p = some-is e in
+        let z : p - i ≡ 0 = omega arith in
+        record {
+          from = omega arith;
+          inside = omega arith;
+          there = ap (λ (n : ℕ). getD (x ∷ cs) n 0) z ∙ eqb-true x c q;
+          none-before = λ k h. absurd (omega arith);
+        }
+    by false q e again =
+        let r = again e in
+        let more : p - i ≡ suc (p - suc i) = omega (arith, r .from) in
+        record {
+          from = omega (arith, r .from);
+          inside = omega (arith, r .inside);
+          there = ap (λ (n : ℕ). getD (x ∷ cs) n 0) more ∙ r .there;
+          none-before = λ k h. not-there r more k h;
+        }
+      where
+        not-there : Placed c (suc i) cs p → p - i ≡ suc (p - suc i) → (k : ℕ) → k < p - i → getD (x ∷ cs) k 0 ≡ c → ⊥
+        not-there r more zero h = eqb-false x c q
+        not-there r more (suc k) h = r .none-before k (omega arith)
 
 -- ---- keys
 
@@ -207,12 +250,6 @@ module _ (line : List ℕ) (r : code.Form) (f : FormRead line r) where
   form-inside k p e = omega (arith, f .inside, ap form-place e)
 
 -- ---- SCOPE:HEX
-
-some-is : {a b : ℕ} → some a ≡ some b → a ≡ b
-some-is e = cc
-
-none-some : {a : ℕ} → none ≡ some a → ⊥
-none-some e = let z : _≡_ {A = ℕ} 0 1 = cc in omega arith
 
 -- the colon's place
 pub record Colon (scope cs : List ℕ) (i p : ℕ) : Type 0 where

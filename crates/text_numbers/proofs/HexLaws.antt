@@ -12,6 +12,7 @@ use lib.Seq.{sets, drop-cons}
 use Rattle.laws.specs.Basics.{choose}
 use Rattle.laws.proofs.Tests.{true≢false}
 use Rattle.rules.specs.Text.{hex-value, unhex, text-rules}
+use Rattle.text_numbers.specs.declared.Hexed.{Hexed}
 use Rattle.text_numbers.specs.declared.Hexed.the-variants.{Bad, Good}
 use Rattle.text_numbers.specs.Answers.{hex-shown, pair-shown, pair-value, is-hex, unhexed, written, hexed-answer, hexed-bytes, Unhexed, answers}
 
@@ -247,3 +248,19 @@ module _ (l : List ℕ) (at : ℕ) (t : List ℕ) where
   pub hex-bad : is-hex t ≡ false → Unhexed l at t l Bad
   unfolding answers
   hex-bad h = record { answer = ap hexed-answer (sym (unhexed-not t h)); bytes = ap (hexed-bytes l at) (sym (unhexed-not t h)) }
+
+-- ---- what a caller may use: two digits a byte
+
+pub hexed-size : (l : List ℕ) (at : ℕ) (t after : List ℕ) (r : Hexed) (n : ℕ) → Unhexed l at t after r → r ≡ Good n → n ≡ length t / 2
+unfolding answers
+hexed-size l at t after r n u e = by (is-hex t) refl
+  where
+    by : (b : Bool) → is-hex t ≡ b → n ≡ length t / 2
+    by true h =
+        let g : Good n ≡ Good (length (unhexed t)) = sym e ∙ u .answer ∙ ap hexed-answer (unhexed-is t h) in
+        let s : n ≡ length (unhexed t) = cc in
+        s ∙ length-unhexed t h
+    by false h =
+        let g : Good n ≡ Bad = sym e ∙ u .answer ∙ ap hexed-answer (unhexed-not t h) in
+        let z : _≡_ {A = ℕ} 0 1 = cc in
+        absurd (omega arith)
