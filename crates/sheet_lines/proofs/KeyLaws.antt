@@ -26,10 +26,10 @@ use Rattle.sheet_lines.specs.Lines.{found, first-from, value-from, place
 
 -- ---- the first place
 
-some-is : {a b : ℕ} → some a ≡ some b → a ≡ b
+pub some-is : {a b : ℕ} → some a ≡ some b → a ≡ b
 some-is e = cc
 
-none-some : {a : ℕ} → none ≡ some a → ⊥
+pub none-some : {a : ℕ} → none ≡ some a → ⊥
 none-some e = let z : _≡_ {A = ℕ} 0 1 = cc in omega arith
 
 module _ (c : ℕ) (t : List ℕ) (from : ℕ) where

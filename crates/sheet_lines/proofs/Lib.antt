@@ -1,2 +1,3 @@
 pub mod KeyLaws
 pub mod NodeLaws
+pub mod LineLaws
