@@ -1,0 +1,48 @@
+-- `heap_setup::clear_bytes`: what is passed is zero. Assumes nothing.
+use Prim.Native.Nat.{_-_}
+use lib.ListN.{length}
+use Rattle.heap_setup.proofs.ClearLaws.{Clearing, clears, clears-on, clears-ends}
+use borrow.Author.Needs.{needs}
+use Rattle.heap_setup.proofs.clear_bytes.Statement.{statement}
+use Rattle.heap_setup.proofs.clear_bytes.Tie as tie
+
+abbrev Inv-loop : tie.InvT-loop
+Inv-loop bytes₀ i₀ bytes i = Clearing bytes₀ bytes i
+
+abbrev μ-loop : tie.MeasureT-loop
+μ-loop bytes₀ i₀ bytes i = length bytes₀ - i
+
+loop-holds : tie.Need-loop-holds Inv-loop μ-loop
+loop-holds c = clears (c .args .bytes .now)
+
+slice-write-bytes : tie.Need-slice-write-bytes Inv-loop μ-loop
+slice-write-bytes c = search needs
+
+add-i : tie.Need-add-i Inv-loop μ-loop
+add-i c = search needs
+
+loop-less : tie.Need-loop-less Inv-loop μ-loop
+loop-less c = search needs
+
+loop-again : tie.Need-loop-again Inv-loop μ-loop
+loop-again c = clears-on _ _ _ (c .before .loop .inv) (c .loop-test .taken)
+
+same-length : tie.Need-same-length Inv-loop μ-loop
+same-length c = c .before .loop .inv .same-size
+
+returns : tie.Need-returns Inv-loop μ-loop
+returns c = clears-ends _ _ _ (c .before .loop .inv) (c .loop-test .left)
+
+pub clear-bytes-spec : {M : Type 1} → statement M
+clear-bytes-spec =
+    tie.close
+    (tie.spec
+    Inv-loop
+    μ-loop
+    loop-holds
+    slice-write-bytes
+    add-i
+    loop-less
+    loop-again
+    same-length
+    returns)
