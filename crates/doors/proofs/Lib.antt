@@ -1,0 +1,3 @@
+pub mod DoorLaws
+pub mod CheckedLaws
+pub mod Determined
