@@ -1,0 +1,4 @@
+pub mod DoorLaws
+pub mod CheckedLaws
+pub mod PutLaws
+pub mod Determined
