@@ -1,7 +1,7 @@
 -- A datum taken out of the bytes is the rules' datum. Assumes nothing.
 use mathlib.Core.Path.{_≡_, refl, sym, ap, _∙_, subst}
 use mathlib.Core.List.{List, [], _∷_, _++_, append-assoc}
-use mathlib.Core.Option.{Option, none, some}
+use mathlib.Core.Option.{Option, some}
 use Prim.Native.Nat.{ℕ, zero, suc, _+_, _-_, _≤_, _<_}
 use native.Mathlib.Omega.{arith}
 use lib.ListN.{length, getD, take, drop, length-append}
@@ -9,7 +9,7 @@ use lib.Seq.{sets, sets-eq, length-sets, take-append-seam, drop-append-add}
 use Rattle.laws.specs.Basics.{join, basics}
 use Rattle.laws.proofs.Stores.{sets-in}
 use Rattle.rules.specs.Sheet as rules
-use Rattle.text_numbers.specs.Answers.{written, answers}
+use Rattle.text_numbers.specs.Answers.{answers}
 use Rattle.sheet_parse.specs.declared.Sheet as code
 use Rattle.sheet_parse.specs.Parsed.{totals, data-in, bytes-of, ends-of, Parsed, place-before, Within, part-of, parsed-words}
 use Rattle.sheet_parse.proofs.SheetLaws.{length-totals}

@@ -3,10 +3,9 @@ use mathlib.Core.Path.{_≡_, refl, sym, ap, _∙_}
 use mathlib.Core.Bool.{Bool, true, false}
 use mathlib.Core.List.{List, [], _∷_, _++_, append-assoc}
 use mathlib.Core.Option.{Option, none, some}
-use Prim.Native.Nat.{ℕ, zero, suc, _+_, _-_, _≤_, _<_}
+use Prim.Native.Nat.{ℕ, zero, suc, _+_, _-_, _≤_}
 use native.Mathlib.Omega.{arith}
 use borrow.Author.Tests.{eq-eqb, ne-eqb}
-use lib.Dec.{eqb}
 use lib.ListN.{length, take, drop, length-append}
 use Rattle.laws.specs.Basics.{ascii, join, zeros, basics}
 use Rattle.rules.specs.Sheet as rules
@@ -21,8 +20,8 @@ use Rattle.sheet_parse.specs.declared.Front.the-variants as front-as
 use Rattle.sheet_parse.specs.declared.Nodes.{Nodes}
 use Rattle.sheet_parse.specs.declared.Nodes.the-variants as nodes
 use Rattle.sheet_parse.specs.Parsed.{totals, data-in, answer-of, bytes-of, ends-of, Parsed, parsed-words}
-use Rattle.sheet_parse.specs.Steps.{Numbered, line-number, header-at, Front, slots-after, front-of, front-told, front-next, FrontRead, begun-at, last-end, nodes-from, ends-from, bytes-from, Outcome, come-to, outcome, count-of, used-of, NodesRead, steps-words}
-use Rattle.sheet_parse.proofs.SizeLaws.{no-some, then-none, then-some}
+use Rattle.sheet_parse.specs.Steps.{Numbered, line-number, header-at, Front, slots-after, front-of, front-told, front-next, FrontRead, begun-at, nodes-from, ends-from, bytes-from, Outcome, come-to, outcome, count-of, used-of, NodesRead, steps-words}
+use Rattle.sheet_parse.proofs.SizeLaws.{then-none, then-some}
 
 -- ---- the sheet
 
@@ -98,7 +97,7 @@ sheet-told t = by (first-from 10 0 t) refl
 
 -- ---- the data
 
-pub data-bytes : (begun : List ℕ) (wants : ℕ) (ls : List Line) → join (λ d. d) (data-from begun wants ls) ≡ begun ++ bytes-from ls
+data-bytes : (begun : List ℕ) (wants : ℕ) (ls : List Line) → join (λ d. d) (data-from begun wants ls) ≡ begun ++ bytes-from ls
 unfolding sheet-rules steps-words basics
 data-bytes [] wants [] = refl
 data-bytes (b ∷ bs) wants [] = refl
@@ -108,7 +107,7 @@ data-bytes begun wants (l ∷ ls) = by (wants - 1 + l .follow) (data-bytes [] 1 
     by zero ended on = ap (λ (x : List ℕ). (begun ++ l .node) ++ x) ended ∙ append-assoc begun (l .node) (bytes-from ls)
     by (suc n) ended on = on n ∙ append-assoc begun (l .node) (bytes-from ls)
 
-pub data-ends : (start : ℕ) (begun : List ℕ) (wants : ℕ) (ls : List Line) → totals start (data-from begun wants ls) ≡ ends-from start (start + length begun) wants ls
+data-ends : (start : ℕ) (begun : List ℕ) (wants : ℕ) (ls : List Line) → totals start (data-from begun wants ls) ≡ ends-from start (start + length begun) wants ls
 unfolding sheet-rules steps-words parsed-words
 data-ends start [] wants [] =
     let e : start ≡ start + 0 = omega arith in

@@ -3,15 +3,15 @@ use mathlib.Core.Path.{_≡_, refl, sym, ap, _∙_, subst}
 use mathlib.Core.Bool.{Bool, true, false}
 use mathlib.Core.List.{List, [], _∷_, _++_}
 use mathlib.Core.Option.{Option, none, some}
-use Prim.Native.Nat.{ℕ, zero, suc, _+_, _-_, _*_, _/_, _≤_, _<_}
+use Prim.Native.Nat.{ℕ, _+_, _-_, _*_, _/_, _≤_, _<_}
 use native.Mathlib.Omega.{arith}
 use lib.Dec.{eqb}
 use lib.ListN.{length, length-append}
-use Rattle.laws.specs.Basics.{ascii, little, basics}
+use Rattle.laws.specs.Basics.{little, basics}
 use Rattle.laws.proofs.Bytes.{length-little}
 use Rattle.rules.specs.Nodes.{write-text, nodes-rules}
 use Rattle.rules.specs.Text.{unsigned32, signed64, unhex}
-use Rattle.rules.specs.Sheet.{Line, Form, value-of, then-read, bare, numbered, hexed, signed-number, scoped-from, scoped, forms, read-form, node-line, sheet-rules}
+use Rattle.rules.specs.Sheet.{Line, Form, value-of, then-read, bare, numbered, hexed, signed-number, scoped-from, forms, read-form, node-line, sheet-rules}
 use Rattle.text_numbers.specs.Answers.{is-hex, unhexed, answers}
 use Rattle.text_numbers.proofs.HexLaws.{length-unhexed}
 use Rattle.text_numbers.proofs.ReadLaws.{unsigned32-small}

@@ -7,9 +7,9 @@ use Prim.Native.Nat.{ℕ, zero, suc, _+_, _-_, _*_, _≤_, _<_}
 use native.Mathlib.Omega.{arith}
 use borrow.Author.Tests.{eq-eqb, ne-eqb, eqb-true, eqb-false}
 use lib.Dec.{eqb}
-use lib.ListN.{length, set, take, drop, length-append, length-set, length-drop, drop-of-length-le}
-use lib.Seq.{sets, length-sets, length-take-le, drop-cons}
-use Rattle.laws.specs.Basics.{ascii, choose, join, same, zeros, basics}
+use lib.ListN.{length, set, take, drop, length-append, length-set, length-drop}
+use lib.Seq.{length-sets, length-take-le}
+use Rattle.laws.specs.Basics.{ascii, choose, same, zeros, basics}
 use Rattle.laws.proofs.Tests.{same-equal}
 use Rattle.rules.specs.Sheet.{Line, lines, then-read, node-line, node-lines, sheet-rules}
 use Rattle.text_numbers.specs.Answers.{written, answers}
@@ -18,11 +18,10 @@ use Rattle.sheet_lines.proofs.LineLaws.{and-line, only-empty, line-found, line-
 use Rattle.sheet_lines.proofs.NodeLaws.{written-first, written-next}
 use Rattle.sheet_parse.specs.declared.Reading.{Reading}
 use Rattle.sheet_parse.specs.declared.Reading.the-variants as reading
-use Rattle.sheet_parse.specs.declared.Nodes.{Nodes}
 use Rattle.sheet_parse.specs.declared.Nodes.the-variants as nodes
 use Rattle.sheet_parse.specs.declared.Progress.{Progress}
-use Rattle.sheet_parse.specs.Steps.{Told, bad, last, node, told-at, reading-of, read-bytes, LineRead, begun-at, Roomy, stepped-to, stepped-ends-to, stepped, stepped-ends, last-end, finished, finished-ends, nodes-from, ends-from, bytes-from, Outcome, come-to, outcome, count-of, used-of, NodesRead, steps-words}
-use Rattle.sheet_parse.proofs.SizeLaws.{no-some, the-some, then-none, then-some, Fits, line-fits}
+use Rattle.sheet_parse.specs.Steps.{Told, bad, last, node, told-at, reading-of, read-bytes, LineRead, begun-at, Roomy, stepped-to, stepped-ends-to, stepped, stepped-ends, last-end, finished, finished-ends, nodes-from, ends-from, bytes-from, Outcome, come-to, outcome, NodesRead, steps-words}
+use Rattle.sheet_parse.proofs.SizeLaws.{line-fits}
 use Rattle.sheet_parse.proofs.ReadLaws.{Between, between, told-none, told-some}
 
 -- ---- one step of the progress
@@ -56,25 +55,25 @@ module _ (p : Progress) (ends : List ℕ) where
 
 -- ---- what the answers tell
 
-pub is-bad : (x : Told) → reading.Bad ≡ reading-of x → x ≡ bad
+is-bad : (x : Told) → reading.Bad ≡ reading-of x → x ≡ bad
 unfolding steps-words
 is-bad bad e = refl
 is-bad last e = let z : _≡_ {A = ℕ} 0 1 = cc in absurd (omega arith)
 is-bad (node l n) e = let z : _≡_ {A = ℕ} 0 1 = cc in absurd (omega arith)
 
-pub is-last : (x : Told) → reading.Last ≡ reading-of x → x ≡ last
+is-last : (x : Told) → reading.Last ≡ reading-of x → x ≡ last
 unfolding steps-words
 is-last bad e = let z : _≡_ {A = ℕ} 0 1 = cc in absurd (omega arith)
 is-last last e = refl
 is-last (node l n) e = let z : _≡_ {A = ℕ} 0 1 = cc in absurd (omega arith)
 
-pub record IsNode (x : Told) (size follow next : ℕ) : Type 0 where
+record IsNode (x : Told) (size follow next : ℕ) : Type 0 where
   pub line : Line
   pub is : x ≡ node line next
   pub size-is : length (line .node) ≡ size
   pub follow-is : line .follow ≡ follow
 
-pub is-node : (x : Told) (size follow next : ℕ) → reading.Node size follow next ≡ reading-of x → IsNode x size follow next
+is-node : (x : Told) (size follow next : ℕ) → reading.Node size follow next ≡ reading-of x → IsNode x size follow next
 unfolding steps-words
 is-node bad size follow next e = let z : _≡_ {A = ℕ} 0 1 = cc in absurd (omega arith)
 is-node last size follow next e = let z : _≡_ {A = ℕ} 0 1 = cc in absurd (omega arith)
@@ -85,7 +84,7 @@ is-node (node l n) size follow next e =
 -- ---- a line of the text against the rules' lines
 
 -- the nodes from a line on, by what it is told to be
-unfoldable pub meaning : List ℕ → Told → Option (List Line)
+unfoldable meaning : List ℕ → Told → Option (List Line)
 meaning t bad = none
 meaning t last = some []
 meaning t (node l next) = then-read (nodes-from t next) (λ ls. some (l ∷ ls))
@@ -154,7 +153,7 @@ told-line t l n h false = by (node-line l)
     by none = refl
     by (some m) = refl
 
-pub nodes-told : (t : List ℕ) (at : ℕ) → nodes-from t at ≡ meaning t (told-at t at)
+nodes-told : (t : List ℕ) (at : ℕ) → nodes-from t at ≡ meaning t (told-at t at)
 unfolding steps-words meaning
 nodes-told t at = by (first-from 10 at (drop at t)) refl
   where
@@ -171,17 +170,17 @@ nodes-told t at = by (first-from 10 at (drop at t)) refl
 
 -- ---- how far a line goes
 
-pub record Goes (t : List ℕ) (at : ℕ) (l : Line) (next : ℕ) : Type 0 where
+record Goes (t : List ℕ) (at : ℕ) (l : Line) (next : ℕ) : Type 0 where
   pub from : at + 5 ≤ next
   pub inside : next ≤ length t
   pub size : length (l .node) ≤ 2 * (next - at)
   pub few : l .follow < 4294967296
 
-line-node : (s : List ℕ) (n : ℕ) (c b : Bool) (x : Option Line) (l : Line) (next : ℕ) → _≡_ {A = Told} (elim b [ true ↦ choose c last bad | false ↦ elim x [ none ↦ bad | some m ↦ node m n ] ]) (node l next) → (x ≡ some l) × (n ≡ next)
-line-node s n true true x l next e = let z : _≡_ {A = ℕ} 0 1 = cc in absurd (omega arith)
-line-node s n false true x l next e = let z : _≡_ {A = ℕ} 0 1 = cc in absurd (omega arith)
-line-node s n c false none l next e = let z : _≡_ {A = ℕ} 0 1 = cc in absurd (omega arith)
-line-node s n c false (some m) l next e = (cc, cc)
+line-node : (n : ℕ) (c b : Bool) (x : Option Line) (l : Line) (next : ℕ) → _≡_ {A = Told} (elim b [ true ↦ choose c last bad | false ↦ elim x [ none ↦ bad | some m ↦ node m n ] ]) (node l next) → (x ≡ some l) × (n ≡ next)
+line-node n true true x l next e = let z : _≡_ {A = ℕ} 0 1 = cc in absurd (omega arith)
+line-node n false true x l next e = let z : _≡_ {A = ℕ} 0 1 = cc in absurd (omega arith)
+line-node n c false none l next e = let z : _≡_ {A = ℕ} 0 1 = cc in absurd (omega arith)
+line-node n c false (some m) l next e = (cc, cc)
 
 line-last : (b c : Bool) (n : ℕ) (x : Option Line) → _≡_ {A = Told} (elim b [ true ↦ choose c last bad | false ↦ elim x [ none ↦ bad | some m ↦ node m n ] ]) last → b ≡ true
 line-last true c n x e = refl
@@ -193,7 +192,7 @@ line-size t at e b =
     let room : e - at ≤ length (drop at t) = omega (arith, b .from, b .inside, length-drop at t) in
     length-take-le (e - at) (drop at t) room
 
-pub node-goes : (t : List ℕ) (at : ℕ) (l : Line) (next : ℕ) → told-at t at ≡ node l next → Goes t at l next
+node-goes : (t : List ℕ) (at : ℕ) (l : Line) (next : ℕ) → told-at t at ≡ node l next → Goes t at l next
 unfolding steps-words
 node-goes t at l next e = by (first-from 10 at (drop at t)) refl
   where
@@ -205,7 +204,7 @@ node-goes t at l next e = by (first-from 10 at (drop at t)) refl
     by (some k) q =
         let s = take (k - at) (drop at t) in
         let b = between t at k q in
-        let r = line-node s (k + 1) (eqb (k + 1) (length t)) (same s (ascii "end=")) (node-line s) l next (sym (told-some t at k q) ∙ e) in
+        let r = line-node (k + 1) (eqb (k + 1) (length t)) (same s (ascii "end=")) (node-line s) l next (sym (told-some t at k q) ∙ e) in
         let f = line-fits s l (r .0) in
         let size = line-size t at k b in
         record {
@@ -215,7 +214,7 @@ node-goes t at l next e = by (first-from 10 at (drop at t)) refl
           few = f .few;
         }
 
-pub last-goes : (t : List ℕ) (at : ℕ) → told-at t at ≡ last → at + 5 ≤ length t
+last-goes : (t : List ℕ) (at : ℕ) → told-at t at ≡ last → at + 5 ≤ length t
 unfolding steps-words basics
 last-goes t at e = by (first-from 10 at (drop at t)) refl
   where
@@ -246,11 +245,11 @@ last-one start used = by (eqb start used)
     by false = omega arith
 
 module _ (t out ends : List ℕ) (p : Progress) where
-  pub stop-bad : told-at t (p .at) ≡ bad → come-to nodes.Bad (zeros (length out)) (zeros (length ends)) ≡ outcome out ends p (nodes-from t (p .at))
+  stop-bad : told-at t (p .at) ≡ bad → come-to nodes.Bad (zeros (length out)) (zeros (length ends)) ≡ outcome out ends p (nodes-from t (p .at))
   unfolding steps-words meaning
   stop-bad e = sym (ap (outcome out ends p) (nodes-told t (p .at) ∙ ap (meaning t) e))
 
-  pub stop-last : told-at t (p .at) ≡ last → come-to (nodes.Good (finished p) (p .used)) out (finished-ends ends p) ≡ outcome out ends p (nodes-from t (p .at))
+  stop-last : told-at t (p .at) ≡ last → come-to (nodes.Good (finished p) (p .used)) out (finished-ends ends p) ≡ outcome out ends p (nodes-from t (p .at))
   unfolding steps-words meaning answers basics
   stop-last e =
       let full : p .used ≡ p .used + 0 = omega arith in
@@ -282,7 +281,7 @@ module _ (t out ends : List ℕ) (p : Progress) where
         λ j. come-to nodes.Bad (zeros (sym length-out j)) (zeros (sym (length-ends ends p (p .used + length (l .node)) (p .wants - 1 + l .follow)) j))
     turn-with (some ls) = turn-by ls (p .wants - 1 + l .follow)
 
-    pub turn : told-at t (p .at) ≡ node l next → outcome out ends p (nodes-from t (p .at)) ≡ outcome (written out (p .used) (l .node)) (stepped-ends ends p (length (l .node)) (l .follow)) (stepped p (length (l .node)) (l .follow) next) (nodes-from t next)
+    turn : told-at t (p .at) ≡ node l next → outcome out ends p (nodes-from t (p .at)) ≡ outcome (written out (p .used) (l .node)) (stepped-ends ends p (length (l .node)) (l .follow)) (stepped p (length (l .node)) (l .follow) next) (nodes-from t next)
     unfolding meaning
     turn e = ap (outcome out ends p) (nodes-told t (p .at) ∙ ap (meaning t) e) ∙ turn-with (nodes-from t next)
 

@@ -2,10 +2,9 @@
 // `slots=`, the data, `end=`. .. There may be no data." The data's bytes are written one behind the other, and where each
 // ends is kept, so that a datum can be taken as a part of those bytes. Of bad text nothing is left: both rooms are zero.
 ghost use mathlib.Core.Path.{_≡_};
-ghost use Prim.Native.Nat.{ℕ, _+_, _*_, _-_, _≤_, _<_};
+ghost use Prim.Native.Nat.{_+_, _*_, _-_, _≤_, _<_};
 ghost use lib.ListN.{length};
 ghost use Rattle.laws.specs.Basics.{zeros};
-ghost use Rattle.rules.specs.Sheet as rules;
 ghost use Rattle.sheet_parse.specs.Parsed.{Parsed, place-before, Within, part-of};
 ghost use Rattle.sheet_parse.specs.Steps.{HeaderRead, FrontRead, line-told, told-at, LineRead, Roomy, stepped, stepped-ends, finished, finished-ends, NodesRead};
 
