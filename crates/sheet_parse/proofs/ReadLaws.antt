@@ -9,8 +9,7 @@ use native.Mathlib.Omega.{arith}
 use lib.Dec.{eqb}
 use lib.ListN.{length, set, take, drop, length-drop}
 use lib.Seq.{take-suc-set, take-all}
-use Rattle.laws.specs.Basics.{ascii, choose, same, zeros, basics}
-use Rattle.laws.proofs.Stores.{zeros-add}
+use Rattle.laws.specs.Basics.{ascii, choose, same, basics}
 use Rattle.rules.specs.Sheet.{Line, node-line, header-line}
 use Rattle.text_numbers.specs.declared.Number.{Number}
 use Rattle.text_numbers.specs.declared.Number.the-variants as number
@@ -28,16 +27,6 @@ use Rattle.sheet_parse.specs.declared.Reading.{Reading}
 use Rattle.sheet_parse.specs.declared.Reading.the-variants as reading
 use Rattle.sheet_parse.specs.Steps.{line-number, header-at, header-told, header-next, HeaderRead, slots-after, FrontRead, Told, bad, last, node, line-told, told-at, LineRead, steps-words}
 use Rattle.sheet_parse.proofs.SizeLaws.{then-none, then-some}
-
--- ---- clearing
-
-pub cleared-more : (l : List ℕ) (i : ℕ) → i < length l → take i l ≡ zeros i → take (i + 1) (set l i 0) ≡ zeros (i + 1)
-unfolding basics
-cleared-more l i h e =
-    ap (λ (n : ℕ). take n (set l i 0)) (add-one i) ∙ take-suc-set l i 0 h ∙ ap (λ (x : List ℕ). x ++ (0 ∷ [])) e ∙ zeros-add i 1
-
-pub cleared-all : (l : List ℕ) (i n : ℕ) → length l ≤ i → i ≡ n → take i l ≡ zeros i → l ≡ zeros n
-cleared-all l i n h e z = sym (take-all i l h) ∙ z ∙ ap zeros e
 
 -- ---- the end of a line
 

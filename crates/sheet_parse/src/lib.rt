@@ -4,7 +4,6 @@
 ghost use mathlib.Core.Path.{_≡_};
 ghost use Prim.Native.Nat.{_+_, _*_, _-_, _≤_, _<_};
 ghost use lib.ListN.{length};
-ghost use Rattle.laws.specs.Basics.{zeros};
 ghost use Rattle.sheet_parse.specs.Parsed.{Parsed, place-before, Within, part-of};
 ghost use Rattle.sheet_parse.specs.Steps.{HeaderRead, FrontRead, line-told, told-at, LineRead, Roomy, stepped, stepped-ends, finished, finished-ends, NodesRead};
 
@@ -47,26 +46,6 @@ struct Progress {
     start: usize,
     wants: u64,
     count: usize,
-}
-
-fn clear_bytes(out: &mut [u8])
-    ensures { λ _. ⌜ now (out .exit) ≡ zeros (length (now (out .entry))) ⌝ }
-{
-    let mut i = 0;
-    while i < out.len() {
-        out[i] = 0;
-        i += 1;
-    }
-}
-
-fn clear_words(ends: &mut [u64])
-    ensures { λ _. ⌜ now (ends .exit) ≡ zeros (length (now (ends .entry))) ⌝ }
-{
-    let mut i = 0;
-    while i < ends.len() {
-        ends[i] = 0;
-        i += 1;
-    }
 }
 
 // The line at a place, which is to have the key.
@@ -196,8 +175,8 @@ fn node_lines(text: &[u8], from: usize, out: &mut [u8], ends: &mut [u64]) -> Nod
         let r = read_at(text, p.at, out, p.used);
         match r {
             Reading::Bad => {
-                clear_bytes(out);
-                clear_words(ends);
+                leaf_clear::clear_bytes(out);
+                leaf_clear::clear_words(ends);
                 return Nodes::Bad;
             }
             Reading::Last => {
@@ -219,8 +198,8 @@ pub fn parse(text: &[u8], out: &mut [u8], ends: &mut [u64]) -> Sheet
     let f = first_lines(text);
     match f {
         Front::Bad => {
-            clear_bytes(out);
-            clear_words(ends);
+            leaf_clear::clear_bytes(out);
+            leaf_clear::clear_words(ends);
             Sheet::Bad
         }
         Front::Good(chunk, slots, from) => {
