@@ -1,7 +1,6 @@
 -- Values and cells, printed by their cases. Assumes nothing.
-use mathlib.Core.Path.{_≡_, refl, sym, ap, _∙_, subst}
-use mathlib.Core.Bool.{Bool}
-use mathlib.Core.List.{List, [], _∷_, _++_, append-assoc}
+use mathlib.Core.Path.{_≡_, sym, ap, _∙_, subst}
+use mathlib.Core.List.{List, _∷_, _++_, append-assoc}
 use Prim.Native.Nat.{ℕ, _+_, _*_, _≤_, _<_}
 use native.Mathlib.Omega.{arith}
 use lib.ListN.{length, length-append}
@@ -12,7 +11,7 @@ use Rattle.rules.specs.Heap.{part-of}
 use Rattle.rules.specs.Numbers.{bits64}
 use Rattle.rules.specs.Sound.{sound-rules}
 use Rattle.rules.specs.Text.{decimal, signed, hex}
-use Rattle.rules.specs.Listing.{print-value, listing-rules}
+use Rattle.rules.specs.Listing.{print-value}
 use Rattle.leaf_cells.specs.Cells.{cell-of}
 use Rattle.leaf_cells.specs.Elements.{value-of, loaded-element}
 use Rattle.leaf_cells.specs.declared.Value.{Value}
@@ -20,12 +19,12 @@ use Rattle.leaf_cells.specs.declared.VCell.{VCell}
 use Rattle.leaf_cells.specs.declared.VCell.the-variants as cell
 use Rattle.text_numbers.specs.Answers.{Printed}
 use Rattle.text_numbers.proofs.PrintLaws.{signed-short, length-hex}
-use Rattle.sheet_listing.specs.Printing.{Within, listed, element-text, cell-text, Shown-in}
+use Rattle.sheet_listing.specs.Printing.{most-value, most-cell, Within, listed, element-text, cell-text, Shown-in}
 use Rattle.sheet_listing.proofs.PrintLaws.{behind, printed-as, bounded, loosened, within-as}
 
-module _ {l middle after : List ℕ} {at p r : ℕ} where
-  -- ---- parts
+-- ---- parts
 
+module _ {l middle after : List ℕ} {at p r : ℕ} where
   pub number-printed : (n : ℕ) → n < bits64 → Printed l at (ascii "num:") middle p → Printed middle p (signed n) after r → Within 24 l at (ascii "num:" ++ signed n) after r
   unfolding basics
   number-printed n fits f g = record { printed = behind l at f g; short = omega (arith, f .end, g .end, signed-short n fits) }
@@ -44,13 +43,13 @@ module _ {l middle after : List ℕ} {at p r : ℕ} where
 -- ---- values
 
 -- the value is this one, and its text was printed
-pub value-as : (v w : Value) (k : ℕ) {l t after : List ℕ} {at r : ℕ} → v ≡ w → t ≡ print-value (value-of w) → k ≤ 25 → Within k l at t after r → Within 25 l at (print-value (value-of v)) after r
-value-as v w k e q h p = within-as (q ∙ ap (λ (x : Value). print-value (value-of x)) (sym e)) (loosened 25 h p)
+pub value-as : (v w : Value) (k : ℕ) {l t after : List ℕ} {at r : ℕ} → v ≡ w → t ≡ print-value (value-of w) → k ≤ most-value → Within k l at t after r → Within most-value l at (print-value (value-of v)) after r
+value-as v w k e q h p = within-as (q ∙ ap (λ (x : Value). print-value (value-of x)) (sym e)) (loosened most-value h p)
 
 -- ---- a vector's elements
 
 pub element-printed : (es : List ℕ) (place i : ℕ) (v : Value) {l after : List ℕ} {at r : ℕ} → value-of v ≡ loaded-element es (place + i)
-    → Within 25 l at (print-value (value-of v)) after r → Within 25 l at (element-text es place i) after r
+    → Within most-value l at (print-value (value-of v)) after r → Within most-value l at (element-text es place i) after r
 unfolding element-text
 element-printed es place i v e p = within-as (ap print-value e) p
 
@@ -63,8 +62,8 @@ all-printed f i n h k p =
 
 module _ (bs es : List ℕ) (v : VCell) where
   -- the cell is this one, and its text was printed
-  pub cell-as : (w : VCell) (k : ℕ) {l t after : List ℕ} {at r : ℕ} → v ≡ w → t ≡ cell-text bs es (cell-of w) → k ≤ 26628 → Within k l at t after r → Within 26628 l at (cell-text bs es (cell-of v)) after r
-  cell-as w k e q h p = within-as (q ∙ ap (λ (x : VCell). cell-text bs es (cell-of x)) (sym e)) (loosened 26628 h p)
+  pub cell-as : (w : VCell) (k : ℕ) {l t after : List ℕ} {at r : ℕ} → v ≡ w → t ≡ cell-text bs es (cell-of w) → k ≤ most-cell → Within k l at t after r → Within most-cell l at (cell-text bs es (cell-of v)) after r
+  cell-as w k e q h p = within-as (q ∙ ap (λ (x : VCell). cell-text bs es (cell-of x)) (sym e)) (loosened most-cell h p)
 
   module _ (s : Shown-in (length bs) (length es) (cell-of v)) (p n : ℕ) where
     pub symbol-room : v ≡ cell.Symbol p n → (p + n ≤ length bs) × (n ≤ 4096)

@@ -1,18 +1,18 @@
 -- Texts printed one behind the other, and numbers behind their keys. Assumes nothing.
-use mathlib.Core.Path.{_≡_, refl, sym, ap, _∙_, subst}
+use mathlib.Core.Path.{_≡_, refl, _∙_, subst}
 use mathlib.Core.List.{List, [], _∷_, _++_, append-assoc}
-use Prim.Native.Nat.{ℕ, zero, suc, _+_, _*_, _/_, _≤_, _<_}
+use Prim.Native.Nat.{ℕ, _+_, _*_, _/_, _≤_, _<_}
 use native.Mathlib.Decide.{decLt}
 use native.Mathlib.Omega.{arith}
 use lib.ListN.{length, set, length-append}
 use lib.Seq.{sets}
 use Rattle.laws.proofs.Writing.{sets-append}
 use Rattle.rules.specs.Numbers.{bits64}
-use Rattle.rules.specs.Text.{decimal, signed}
+use Rattle.rules.specs.Text.{decimal}
 use Rattle.leaf_cells.specs.Words.{stored}
-use Rattle.text_numbers.specs.Answers.{written, Printed, answers}
-use Rattle.text_numbers.proofs.PrintLaws.{length-one, length-more, decimal-short, signed-short}
-use Rattle.sheet_listing.specs.Printing.{Within}
+use Rattle.text_numbers.specs.Answers.{Printed, answers}
+use Rattle.text_numbers.proofs.PrintLaws.{length-one, length-more, decimal-short}
+use Rattle.sheet_listing.specs.Printing.{most-line, Within}
 
 -- ---- one behind the other
 
@@ -58,7 +58,7 @@ module _ (l key : List ℕ) (at n : ℕ) (fits : n < bits64) where
   pub keyed : {middle after : List ℕ} {p r : ℕ} → Printed l at key middle p → Printed middle p (decimal n) after r → Within (length key + 20) l at (key ++ decimal n) after r
   keyed f g = record { printed = behind l at f g; short = omega (arith, f .end, g .end, decimal-short n fits) }
 
-pub line-ended : (l key : List ℕ) (n : ℕ) {middle : List ℕ} {p : ℕ} → length key + 21 ≤ 32768 → Within (length key + 20) l 0 (key ++ decimal n) middle p → Within 32768 l 0 (key ++ (decimal n ++ (10 ∷ []))) (set middle p 10) (p + 1)
+pub line-ended : (l key : List ℕ) (n : ℕ) {middle : List ℕ} {p : ℕ} → length key + 21 ≤ most-line → Within (length key + 20) l 0 (key ++ decimal n) middle p → Within most-line l 0 (key ++ (decimal n ++ (10 ∷ []))) (set middle p 10) (p + 1)
 line-ended l key n {middle} {p} h f =
     record {
       printed = printed-as (append-assoc key (decimal n) (10 ∷ [])) (behind l 0 (f .printed) (byte-printed middle p 10));

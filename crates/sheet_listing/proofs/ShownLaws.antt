@@ -1,9 +1,9 @@
 -- What a slot of a sound heap shows: its cell as it stands in the lent lists, within the arenas. Assumes nothing.
 use mathlib.Core.Path.{_≡_, refl, sym, ap, _∙_, subst}
 use mathlib.Core.Bool.{Bool, true, false}
-use mathlib.Core.List.{List, [], _∷_, _++_, map}
-use mathlib.Core.Option.{Option, none, some}
-use Prim.Native.Nat.{ℕ, _+_, _*_, _≤_, _<_}
+use mathlib.Core.List.{List, _++_, map}
+use mathlib.Core.Option.{none, some}
+use Prim.Native.Nat.{ℕ, _+_, _*_, _≤_}
 use native.Mathlib.Omega.{arith}
 use borrow.Author.Tests.{leb-true}
 use lib.Dec.{leb}
@@ -14,24 +14,21 @@ use Rattle.laws.proofs.Lists.{told-again}
 use Rattle.laws.proofs.Pointwise.{getD-part, length-part}
 use Rattle.rules.specs.Cells.{undefined, scalar, Block, Cell, plain, pair, symbol, string, vector}
 use Rattle.rules.specs.Heap.{Heap, capacity, cell-at, in-use, part-of, text-of, elements-of}
-use Rattle.rules.specs.Map.{map-rules}
-use Rattle.rules.specs.Layout.{Lent, map-bytes, words-of, filled, rooms-of, lent-of, heap-of, layout-rules}
+use Rattle.rules.specs.Layout.{Lent, map-bytes, rooms-of, heap-of, layout-rules}
 use Rattle.rules.specs.Sound.{text-block, vector-block, lies-in, cell-allowed, Sound, sound, sound-rules}
 use Rattle.rules.specs.Text.{decimal, hex}
 use Rattle.rules.specs.Listing.{print-value, commas, print-cell, print-slot, listing-rules}
-use Rattle.rules.proofs.SoundLaws.{Bounds, clauses, bounds, lists-again, sound-fits}
+use Rattle.rules.proofs.SoundLaws.{clauses, bounds, lists-again, sound-fits}
 use Rattle.rules.proofs.Good.{Cell-good}
 use Rattle.rules.proofs.GoodSound.{sound-good}
 use Rattle.leaf_cells.specs.Cells.{cell-of, lookup-of, looked-up}
-use Rattle.leaf_cells.specs.Elements.{loaded-element}
 use Rattle.leaf_cells.specs.declared.Lookup.{Lookup}
 use Rattle.leaf_cells.specs.declared.Lookup.the-variants as look
 use Rattle.leaf_cells.specs.declared.VCell.{VCell}
 use Rattle.leaf_cells.proofs.HeapLaws.{looked-up-is, text-is}
 use Rattle.leaf_cells.proofs.CallLaws.{load-element-on}
 use Rattle.text_numbers.specs.Answers.{Printed}
-use Rattle.heap_sound_rows.proofs.HeapFacts.{cells-length, bytes-length, elements-length}
-use Rattle.sheet_listing.specs.Printing.{Within, listed, element-text, cell-text, Shown-in, slot-text}
+use Rattle.sheet_listing.specs.Printing.{most-line, most-cell, Within, listed, element-text, cell-text, Shown-in, slot-text}
 use Rattle.sheet_listing.proofs.PrintLaws.{byte-printed, behind, bounded, within-as}
 
 some-is : {A : Type 0} {a b : A} → some a ≡ some b → a ≡ b
@@ -152,7 +149,7 @@ module _ (l : Lent) (is : sound l ≡ true) where
   cell-room s c e = subst (λ (x : Cell). Shown-in (length (l .bytes)) (length (l .elems)) x) (sym e) (shown-in (cell-at h s) (good-cell s))
 
   module _ (s : ℕ) {o after : List ℕ} {at r : ℕ} where
-    pub shown-printed : (c : VCell) → in-use h s ≡ true → cell-of c ≡ cell-at h s → Within 26628 o at (cell-text (l .bytes) (l .elems) (cell-of c)) after r → Within 26628 o at (slot-text h s) after r
+    pub shown-printed : (c : VCell) → in-use h s ≡ true → cell-of c ≡ cell-at h s → Within most-cell o at (cell-text (l .bytes) (l .elems) (cell-of c)) after r → Within most-cell o at (slot-text h s) after r
     unfolding slot-text
     shown-printed c u e p =
         within-as
@@ -160,16 +157,16 @@ module _ (l : Lent) (is : sound l ≡ true) where
         ∙ sym (ap (λ (b : Bool). elim b [ true ↦ print-cell h (cell-at h s) | false ↦ ascii "free" ]) u))
         p
 
-    pub free-printed : in-use h s ≡ false → Printed o at (ascii "free") after r → Within 26628 o at (slot-text h s) after r
+    pub free-printed : in-use h s ≡ false → Printed o at (ascii "free") after r → Within most-cell o at (slot-text h s) after r
     unfolding slot-text basics
     free-printed u p =
         within-as (sym (ap (λ (b : Bool). elim b [ true ↦ print-cell h (cell-at h s) | false ↦ ascii "free" ]) u))
-        (bounded 26628 (omega arith) p)
+        (bounded most-cell (omega arith) p)
 
 -- ---- the line
 
-pub slot-line-is : (h : Heap) (s : ℕ) {l key cell : List ℕ} {p q : ℕ} → Within 24 l 0 (ascii "slot" ++ decimal s) key p → Within 26628 (set key p 61) (p + 1) (slot-text h s) cell q
-    → Within 32768 l 0 (print-slot h s) (set cell q 10) (q + 1)
+pub slot-line-is : (h : Heap) (s : ℕ) {l key cell : List ℕ} {p q : ℕ} → Within 24 l 0 (ascii "slot" ++ decimal s) key p → Within most-cell (set key p 61) (p + 1) (slot-text h s) cell q
+    → Within most-line l 0 (print-slot h s) (set cell q 10) (q + 1)
 unfolding slot-text listing-rules
 slot-line-is h s {l = l} {key} {cell} {p} {q} f g =
     record {

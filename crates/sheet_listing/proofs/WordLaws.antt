@@ -1,6 +1,5 @@
 -- The lines that tell the words' counts and the free list. Assumes nothing.
-use mathlib.Core.Path.{_≡_, refl, sym, ap, _∙_, subst}
-use mathlib.Core.Bool.{true}
+use mathlib.Core.Path.{_≡_, sym, ap, _∙_}
 use mathlib.Core.List.{List, [], _∷_, _++_, map, reverse, reverse-cons}
 use Prim.Native.Nat.{ℕ, zero, suc, _+_, _-_, _*_, _≤_, _<_}
 use native.Mathlib.Omega.{arith}
@@ -21,26 +20,26 @@ use Rattle.rules.proofs.SoundLaws.{Bounds, clauses, bounds}
 use Rattle.text_numbers.specs.Answers.{Printed}
 use Rattle.heap_sound_rows.specs.Rows.{lists}
 use Rattle.heap_sound_rows.proofs.HeapFacts.{cells-length, free-length, place-is}
-use Rattle.sheet_listing.specs.Printing.{Within, Sound-words, listed, free-text}
+use Rattle.sheet_listing.specs.Printing.{most-line, most-free, Within, Sound-words, listed, free-text}
 use Rattle.sheet_listing.proofs.PrintLaws.{byte-printed, behind, printed-as, within-as, slot-short}
 
 -- ---- lines of one number
 
 module _ (n : ℕ) {l after : List ℕ} {r : ℕ} where
-  pub root-is : Within 32768 l 0 (ascii "root=" ++ (decimal n ++ (10 ∷ []))) after r → Within 32768 l 0 (print-line (ascii "root") (decimal n)) after r
+  pub root-is : Within most-line l 0 (ascii "root=" ++ (decimal n ++ (10 ∷ []))) after r → Within most-line l 0 (print-line (ascii "root") (decimal n)) after r
   unfolding listing-rules basics
   root-is p = p
 
-  pub refusal-is : Within 32768 l 0 (ascii "refused=" ++ (decimal n ++ (10 ∷ []))) after r → Within 32768 l 0 (refusal-line n) after r
+  pub refusal-is : Within most-line l 0 (ascii "refused=" ++ (decimal n ++ (10 ∷ []))) after r → Within most-line l 0 (refusal-line n) after r
   unfolding listing-rules basics
   refusal-is p = p
 
   module _ (ws m b e : List ℕ) where
-    pub capacity-is : n ≡ getD ws 1 0 → Within 32768 l 0 (ascii "capacity=" ++ (decimal n ++ (10 ∷ []))) after r → Within 32768 l 0 (print-line (ascii "capacity") (decimal (capacity (heap-of (lists ws m b e))))) after r
+    pub capacity-is : n ≡ getD ws 1 0 → Within most-line l 0 (ascii "capacity=" ++ (decimal n ++ (10 ∷ []))) after r → Within most-line l 0 (print-line (ascii "capacity") (decimal (capacity (heap-of (lists ws m b e))))) after r
     unfolding listing-rules basics
     capacity-is q p = within-as (ap (λ (k : ℕ). print-line (ascii "capacity") (decimal k)) (q ∙ sym (cells-length (lists ws m b e)))) p
 
-    pub free-is : n ≡ getD ws 2 0 → Within 32768 l 0 (ascii "free=" ++ (decimal n ++ (10 ∷ []))) after r → Within 32768 l 0 (print-line (ascii "free") (decimal (free-count (heap-of (lists ws m b e))))) after r
+    pub free-is : n ≡ getD ws 2 0 → Within most-line l 0 (ascii "free=" ++ (decimal n ++ (10 ∷ []))) after r → Within most-line l 0 (print-line (ascii "free") (decimal (free-count (heap-of (lists ws m b e))))) after r
     unfolding listing-rules basics
     free-is q p = within-as (ap (λ (k : ℕ). print-line (ascii "free") (decimal k)) (q ∙ sym (free-length (lists ws m b e)))) p
 
@@ -97,8 +96,8 @@ module _ (ws m b e : List ℕ) where
       (told-again (decimal 0) (free-text ws) (map decimal free-of)
       (λ i h. ap decimal (free-number i (omega arith)) ∙ sym (List·getD-map decimal free-of i 0)))
 
-  pub freelist-is : {l middle after : List ℕ} {p q : ℕ} → Printed l 0 (ascii "freelist=") middle p → Within 20480 middle p (listed (free-text ws) (getD ws 2 0)) after q
-      → Within 32768 l 0 (print-line (ascii "freelist") (commas (map decimal (heap-of (lists ws m b e) .free)))) (set after q 10) (q + 1)
+  pub freelist-is : {l middle after : List ℕ} {p q : ℕ} → Printed l 0 (ascii "freelist=") middle p → Within most-free middle p (listed (free-text ws) (getD ws 2 0)) after q
+      → Within most-line l 0 (print-line (ascii "freelist") (commas (map decimal (heap-of (lists ws m b e) .free)))) (set after q 10) (q + 1)
   unfolding free-of listing-rules basics
   freelist-is {l = l} {middle} {after} {p} {q} f g =
       record {
@@ -134,7 +133,7 @@ module _ (ws : List ℕ) (s : Sound-words ws) where
   free-printed i h p = record { printed = p; short = omega (arith, p .end, slot-short _ (free-small i h)) }
 
   -- all of them were
-  pub free-ended : {l after : List ℕ} {at r : ℕ} (i : ℕ) → i ≤ getD ws 2 0 → getD ws 2 0 ≤ i → Within (5 * i) l at (listed (free-text ws) i) after r → Within 20480 l at (listed (free-text ws) (getD ws 2 0)) after r
+  pub free-ended : {l after : List ℕ} {at r : ℕ} (i : ℕ) → i ≤ getD ws 2 0 → getD ws 2 0 ≤ i → Within (5 * i) l at (listed (free-text ws) i) after r → Within most-free l at (listed (free-text ws) (getD ws 2 0)) after r
   free-ended i h k p =
       let e : i ≡ getD ws 2 0 = omega arith in
       record { printed = printed-as (ap (listed (free-text ws)) e) (p .printed); short = omega (arith, p .short, free-few) }

@@ -67,6 +67,7 @@ pub fn refusal_line(n: u64, out: &mut [u8]) -> usize
     number_line(b"refused=", n, out)
 }
 
+// The slots that there are.
 pub fn capacity_line(words: &[u64], out: &mut [u8]) -> usize
     requires { ⌜ Sound-words (now words) ⌝ }
     requires { ⌜ most-line ≤ length (now out) ⌝ }
