@@ -1,0 +1,5 @@
+pub mod PrintLaws
+pub mod ListLaws
+pub mod WordLaws
+pub mod CellLaws
+pub mod ShownLaws
