@@ -241,7 +241,7 @@ module _ (text : List ℕ) (fits : length text ≤ 32768) where
                 let g = subst (each-put (called chunk lent (rules.data-of (known .of))) after count kept) q (f .ends) in
                 record {
                   is =
-                      (printed-called lent alike ∙ g .0 ∙ ap (λ (y : Lent). listing (take count kept) (heap-of y)) (sym h), ap sound h ∙ g .1, room);
+                      (printed-called lent alike ∙ g .0 ∙ ap (λ (y : Lent). listing (take count kept) (heap-of y)) (sym h), ap sound h ∙ g .1, few, room);
                 }
 
 -- the parts that were lent on stand at the start again

@@ -82,6 +82,7 @@ ran-so text words map bytes elems roots (ran.Refused n) = printed text ≡ refus
 ran-so text words map bytes elems roots (ran.Listed slots count) =
     (printed text ≡ listing (take count roots) (heap-of (heap-lent slots words map bytes elems)))
     × (sound (heap-lent slots words map bytes elems) ≡ true)
+    × (slots ≤ sheet-slots)
     × (count ≤ length roots)
 
 pub record RanSo (text words map bytes elems roots : List ℕ) (r : Ran) : Type 0 where
