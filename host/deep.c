@@ -117,12 +117,13 @@ static void label(unsigned kind, uint32_t l) {
     four(l);
 }
 
-enum shape { CARS, CDRS, VECTORS, LABELS, MIX, SHAPES };
-static const char *const names[] = {"cars", "cdrs", "vectors of one", "labels", "a mix of the four"};
+enum shape { CARS, CDRS, VECTORS, LABELS, TURNS, MIX, SHAPES };
+static const char *const names[] = {"cars", "cdrs", "vectors of one", "labels", "vectors and labels in turn", "a mix of the four"};
 
 /* One level of a shape, and the nodes that it takes; a pair in cars owes its cdr, which is written at the end. */
 static size_t level(enum shape shape, size_t depth, size_t *owed) {
     if (shape == MIX) shape = (enum shape)(depth % 4);
+    if (shape == TURNS) shape = depth % 2 ? LABELS : VECTORS;
     switch (shape) {
     case CARS:
         byte(9);
@@ -146,7 +147,8 @@ static size_t level(enum shape shape, size_t depth, size_t *owed) {
 static size_t deepest(enum shape shape, size_t nodes) {
     size_t depth = 0, owed = 0, used = 1;
     start();
-    while (used + 2 <= nodes || (used + 1 <= nodes && (shape == VECTORS || shape == LABELS))) {
+    int pairs = shape == CARS || shape == CDRS || shape == MIX;
+    while (used + 1 + pairs <= nodes) {
         used += level(shape, depth, &owed);
         depth++;
     }
@@ -372,17 +374,22 @@ static double time_used(void) {
     return least;
 }
 
+/* The same of a put, less that of the soundness check on the heap before it, taken in turn. */
 static double time_put(void) {
-    double least = 1e18;
+    double least = 1e18, check = 1e18;
     before = heap;
-    for (int i = 0; i < 100; i++) {
+    for (int i = 0; i < 200; i++) {
         heap = before;
         double t = now();
-        struct call c = call(PUT, 0);
+        struct call c = call(USED, 0);
+        t = now() - t;
+        if (c.answer == TALVONGRE_OK && t < check) check = t;
+        t = now();
+        c = call(PUT, 0);
         t = now() - t;
         if (c.answer == TALVONGRE_OK && t < least) least = t;
     }
-    return least;
+    return least - check;
 }
 
 /* ---- full heaps: every slot taken; the rooms are in proportion to the slots, 16 bytes and 4 elements a slot */
@@ -454,9 +461,10 @@ static void put_shared(enum full full, size_t slots) {
     put_made();
 }
 
-/* An entry of the table for every slot, all of one name, under as many scopes. */
+/* An entry of the table for every slot, all of one name, under as many scopes; all bytes in use. */
 static void table_of_all(size_t slots) {
     heap.words[3] = slots;
+    heap.words[4] = heap.bytes_len;
     for (size_t i = 0; i < slots; i++) {
         heap.words[8 + 8 * i + 5] = i;
         heap.words[8 + 8 * i + 6] = i * 1237 % 4096;
@@ -566,9 +574,8 @@ static void put_times(void) {
         double t[4];
         for (int k = 0; k < 4; k++) {
             set_up(MOST_SLOTS, MOST_BYTES, MOST_ELEMENTS, MOST_SLOTS);
-            double check = time_used();
             deepest((enum shape)shape, 512u << k);
-            t[k] = time_put() - check;
+            t[k] = time_put();
         }
         printf("%-28s %10.1f %10.1f %10.1f %10.1f   microseconds\n", names[shape], t[0], t[1], t[2], t[3]);
         printf("%-28s %10s %10.2f %10.2f %10.2f   to the one before\n", "", "", t[1] / t[0], t[2] / t[1], t[3] / t[2]);

@@ -20,7 +20,8 @@
  * below is answered. After a refusal the lists are as they were, and what a call would have written through its last
  * parameters, which may not be NULL, is not written.
  *
- * THE STACK. A call needs less than 2 MiB of stack, whatever it is given (host/run.sh measures it).
+ * THE STACK. A put goes as deep as its datum, which is at most 4,095 vectors or labels in one another: give a thread that
+ * calls 2 MiB of stack. host/run.sh measures what is used of it.
  */
 #ifndef TALVONGRE_H
 #define TALVONGRE_H
