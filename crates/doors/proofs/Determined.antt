@@ -7,8 +7,9 @@ use Prim.Native.Nat.{ℕ}
 use lib.Dec.{eqb}
 use Rattle.laws.specs.Basics.{choose}
 use Rattle.rules.specs.Refusals.{Fault, unknown-kind, cut-short, left-over, bad-bool, bad-char, bad-utf8, Refusal, bad-setup, unsound, short-scratch, malformed, over-limit, early-label, no-such-slot, wrong-cell, no-slots, no-room, short-output, Answer, accepted, refused, told, number-of}
+use Rattle.rules.specs.Cells.{Block}
 use Rattle.rules.specs.Layout.{Lent}
-use Rattle.rules.specs.Calls.{Left, left, put-call, Set-up, setup, text-part, text-told, capacity-call, free-call}
+use Rattle.rules.specs.Calls.{Left, left, put-call, Set-up, setup, text-call, text-part, text-told, capacity-call, free-call}
 use Rattle.doors.specs.declared.SetupAnswer.{SetupAnswer}
 use Rattle.doors.specs.declared.SetupAnswer.the-variants as setups
 use Rattle.leaf_nodes.specs.declared.Fault as code
@@ -20,7 +21,9 @@ use Rattle.doors.specs.declared.CountAnswer.{CountAnswer}
 use Rattle.doors.specs.declared.CountAnswer.the-variants as counts
 use Rattle.doors.specs.declared.TextAnswer.{TextAnswer}
 use Rattle.doors.specs.declared.TextAnswer.the-variants as texts
-use Rattle.doors.specs.Answers.{setup-answer, set-up, put-answer, count-answer, Used, text-answer}
+use Rattle.doors.specs.declared.TextBlock.{TextBlock}
+use Rattle.doors.specs.declared.TextBlock.the-variants as blocks
+use Rattle.doors.specs.Answers.{setup-answer, set-up, put-answer, count-answer, Used, text-answer, block-answer}
 
 -- ---- each answer of the rules comes from one answer of the code
 
@@ -144,3 +147,23 @@ text-determined l s t t' one two = one ∙ sym two
 
 pub text-told-determined : (l : Lent) (s : ℕ) (r r' : TextAnswer) → told (text-answer r) ≡ text-told l s → told (text-answer r') ≡ text-told l s → r ≡ r'
 text-told-determined l s r r' one two = sym (told-back r) ∙ ap from-told (one ∙ sym two) ∙ told-back r'
+
+-- of the refusals that text does not give none is asked for
+refused-block : Refusal → TextBlock
+refused-block r =
+    choose (eqb (number-of r) 20) blocks.Unsound (choose (eqb (number-of r) 14) blocks.NoSuchSlot blocks.WrongCell)
+
+from-block : Answer Block → TextBlock
+unfolding refused-block
+from-block (accepted b) = blocks.Held (b .place) (b .size)
+from-block (refused r) = refused-block r
+
+block-back : (r : TextBlock) → from-block (block-answer r) ≡ r
+unfolding from-block number-of
+block-back (blocks.Held place size) = refl
+block-back blocks.Unsound = refl
+block-back blocks.NoSuchSlot = refl
+block-back blocks.WrongCell = refl
+
+pub text-block-determined : (l : Lent) (s : ℕ) (r r' : TextBlock) → block-answer r ≡ text-call l s → block-answer r' ≡ text-call l s → r ≡ r'
+text-block-determined l s r r' one two = sym (block-back r) ∙ ap from-block (one ∙ sym two) ∙ block-back r'

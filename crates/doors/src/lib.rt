@@ -129,7 +129,7 @@ pub fn used(words: &[u64], map: &[u8], bytes: &[u8], elems: &[u64]) -> CountAnsw
 }
 
 // Where a text is: its place and length in the byte arena, or 20, 14 or 15.
-enum TextBlock {
+pub enum TextBlock {
     Held(usize, usize),
     Unsound,
     NoSuchSlot,
@@ -147,8 +147,8 @@ fn block_in(cell: leaf_cells::VCell) -> TextBlock
     }
 }
 
-// The block of the string or name in a slot: 20, 14, 15.
-fn text_block(words: &[u64], map: &[u8], bytes: &[u8], elems: &[u64], slot: u64) -> TextBlock
+// The block of the string or name in a slot: 20, 14, 15. For a host that takes numbers and no part of a list.
+pub fn text_block(words: &[u64], map: &[u8], bytes: &[u8], elems: &[u64], slot: u64) -> TextBlock
     ensures { λ r. ⌜ block-answer r ≡ text-call (lists (now (words .entry)) (now (map .entry)) (now (bytes .entry)) (now (elems .entry))) slot ⌝ }
 {
     let sound = heap_sound::is_sound(words, map, bytes, elems);

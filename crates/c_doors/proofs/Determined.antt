@@ -1,0 +1,44 @@
+-- Each promise at the C boundary determines what the call does: two outcomes that both meet it on the same lists and numbers
+-- at entry are the same number, the same lists and the same numbers lent for an answer, refusals too. A list lent only to read
+-- stays as it is. Document 01, "Each public call's promise determines the answer and every lent byte afterwards". Assumes
+-- nothing.
+use mathlib.Core.Path.{_≡_, sym, _∙_}
+use mathlib.Core.List.{List}
+use Prim.Native.Nat.{ℕ}
+use Rattle.rules.specs.Refusals.{Answer}
+use Rattle.rules.specs.Cells.{Block}
+use Rattle.rules.specs.Layout.{Lent}
+use Rattle.rules.specs.Calls.{put-call, setup, text-call, capacity-call, free-call, used-call}
+use Rattle.c_doors.specs.Told.{Told, ToldBlock, ToldSetup, ToldPut}
+
+-- ---- any answer that is a number
+
+module _ (a : Answer ℕ) (stood r r' n n' : ℕ) where
+  pub told-determined : Told a stood r n → Told a stood r' n' → (r ≡ r') × (n ≡ n')
+  told-determined one two = (one .number ∙ sym (two .number), one .second ∙ sym (two .second))
+
+-- ---- the calls
+
+module _ (chunk : ℕ) (l : Lent) (r r' : ℕ) (after after' : Lent) where
+  pub setup-determined : ToldSetup (setup chunk l) r after → ToldSetup (setup chunk l) r' after' → (r ≡ r') × (after ≡ after')
+  setup-determined one two = (one .number ∙ sym (two .number), one .lent-is ∙ sym (two .lent-is))
+
+module _ (l : Lent) (scratch datum : List ℕ) (stood r r' : ℕ) (after after' : Lent) (end end' : List ℕ) (n n' : ℕ) where
+  pub put-determined : ToldPut (put-call l scratch datum) stood r after end n → ToldPut (put-call l scratch datum) stood r' after' end' n' → ((r ≡ r') × (n ≡ n')) × (after ≡ after') × (end ≡ end')
+  put-determined one two =
+      (told-determined _ stood r r' n n' (one .told-is) (two .told-is), one .lent-is ∙ sym (two .lent-is), one .scratch-is ∙ sym (two .scratch-is))
+
+module _ (l : Lent) (s stood stood' r r' p p' n n' : ℕ) where
+  pub text-determined : ToldBlock (text-call l s) stood stood' r p n → ToldBlock (text-call l s) stood stood' r' p' n' → (r ≡ r') × (p ≡ p') × (n ≡ n')
+  text-determined one two =
+      (one .number ∙ sym (two .number), one .place-is ∙ sym (two .place-is), one .size-is ∙ sym (two .size-is))
+
+module _ (l : Lent) (stood r r' n n' : ℕ) where
+  pub capacity-determined : Told (capacity-call l) stood r n → Told (capacity-call l) stood r' n' → (r ≡ r') × (n ≡ n')
+  capacity-determined = told-determined (capacity-call l) stood r r' n n'
+
+  pub free-determined : Told (free-call l) stood r n → Told (free-call l) stood r' n' → (r ≡ r') × (n ≡ n')
+  free-determined = told-determined (free-call l) stood r r' n n'
+
+  pub used-determined : Told (used-call l) stood r n → Told (used-call l) stood r' n' → (r ≡ r') × (n ≡ n')
+  used-determined = told-determined (used-call l) stood r r' n n'

@@ -1,0 +1,2 @@
+mod ToldLaws
+pub mod Determined

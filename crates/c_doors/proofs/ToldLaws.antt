@@ -1,0 +1,66 @@
+-- What a caller is told of an answer that is known, and what is told of equal answers. Assumes nothing.
+use mathlib.Core.Path.{_≡_, sym, ap, subst, _∙_}
+use mathlib.Core.List.{List}
+use Prim.Native.Nat.{ℕ}
+use Rattle.rules.specs.Refusals.{Refusal, Answer, accepted, refused, told, number-of}
+use Rattle.rules.specs.Cells.{Block, block}
+use Rattle.rules.specs.Layout.{Lent}
+use Rattle.rules.specs.Calls.{Left, left, Set-up}
+use Rattle.doors.specs.Answers.{setup-answer, set-up}
+use Rattle.doors.specs.declared.SetupAnswer.{SetupAnswer}
+use Rattle.c_doors.specs.Told.{given, Told, ToldBlock, ToldSetup, ToldPut}
+
+-- ---- one number
+
+module _ (a : Answer ℕ) (stood : ℕ) where
+  pub told-number : (n : ℕ) → a ≡ accepted n → Told a stood 0 n
+  unfolding told given
+  told-number n e = record { number = ap told (sym e); second = ap (λ (x : Answer ℕ). given (λ y. y) x stood) (sym e) }
+
+  pub told-refusal : (r : Refusal) → a ≡ refused r → Told a stood (number-of r) stood
+  unfolding told given
+  told-refusal r e = record { number = ap told (sym e); second = ap (λ (x : Answer ℕ). given (λ y. y) x stood) (sym e) }
+
+  pub told-same : (b : Answer ℕ) (r n : ℕ) → a ≡ b → Told a stood r n → Told b stood r n
+  told-same b r n e t = subst (λ (x : Answer ℕ). Told x stood r n) e t
+
+-- ---- a block
+
+module _ (a : Answer Block) (stood stood′ : ℕ) where
+  pub told-block : (p n : ℕ) → a ≡ accepted (block p n) → ToldBlock a stood stood′ 0 p n
+  unfolding told given
+  told-block p n e =
+      record {
+        number = ap told (sym e);
+        place-is = ap (λ (x : Answer Block). given (λ b. b .place) x stood) (sym e);
+        size-is = ap (λ (x : Answer Block). given (λ b. b .size) x stood′) (sym e);
+      }
+
+  pub no-block : (r : Refusal) → a ≡ refused r → ToldBlock a stood stood′ (number-of r) stood stood′
+  unfolding told given
+  no-block r e =
+      record {
+        number = ap told (sym e);
+        place-is = ap (λ (x : Answer Block). given (λ b. b .place) x stood) (sym e);
+        size-is = ap (λ (x : Answer Block). given (λ b. b .size) x stood′) (sym e);
+      }
+
+  pub block-same : (b : Answer Block) (r p n : ℕ) → a ≡ b → ToldBlock a stood stood′ r p n → ToldBlock b stood stood′ r p n
+  block-same b r p n e t = subst (λ (x : Answer Block). ToldBlock x stood stood′ r p n) e t
+
+-- ---- what a call leaves
+
+pub told-setup : (x : Set-up) (a b : SetupAnswer) (after : Lent) (r : ℕ) → set-up a after ≡ x → a ≡ b → r ≡ told (setup-answer b) → ToldSetup x r after
+told-setup x a b after r e same is =
+    record {
+      number = is ∙ ap (λ (y : SetupAnswer). told (setup-answer y)) (sym same) ∙ ap (λ (y : Set-up). told (y .answer)) e;
+      lent-is = ap (λ (y : Set-up). y .lent) e;
+    }
+
+pub told-put : (x : Left ℕ) (a : Answer ℕ) (stood r : ℕ) (after : Lent) (end : List ℕ) (n : ℕ) → left a after end ≡ x → Told a stood r n → ToldPut x stood r after end n
+told-put x a stood r after end n e t =
+    record {
+      told-is = told-same a stood (x .answer) r n (ap (λ (y : Left ℕ). y .answer) e) t;
+      lent-is = ap (λ (y : Left ℕ). y .lent) e;
+      scratch-is = ap (λ (y : Left ℕ). y .scratch) e;
+    }

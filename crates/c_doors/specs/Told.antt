@@ -1,0 +1,37 @@
+-- What a caller at the C boundary is told of an answer of the rules: its number, 0 or the refusal's, and what was asked for,
+-- written over what the caller lent for it; "A refusal answers its number only, and leaves heap and output as they stood", so
+-- after a refusal what was lent is as it was. Document 01, "What a caller is told". Assumes nothing.
+use mathlib.Core.Path.{_≡_}
+use mathlib.Core.List.{List}
+use Prim.Native.Nat.{ℕ}
+use Rattle.rules.specs.Refusals.{Answer, accepted, refused, told}
+use Rattle.rules.specs.Cells.{Block}
+use Rattle.rules.specs.Layout.{Lent}
+use Rattle.rules.specs.Calls.{Left, Set-up}
+
+-- a number of what was asked for, or what stood there
+unfoldable pub given {ℓ} : {A : Type 0} {B : Type ℓ} → (A → B) → Answer A → B → B
+given f (accepted a) stood = f a
+given f (refused r) stood = stood
+
+-- an answer that is one number
+pub record Told (a : Answer ℕ) (stood r n : ℕ) : Type 0 where
+  pub number : r ≡ told a
+  pub second : n ≡ given (λ x. x) a stood
+
+-- an answer that is a block: its place and its size
+pub record ToldBlock (a : Answer Block) (stood stood′ r p n : ℕ) : Type 0 where
+  pub number : r ≡ told a
+  pub place-is : p ≡ given (λ b. b .place) a stood
+  pub size-is : n ≡ given (λ b. b .size) a stood′
+
+-- setup: the number and the lists that it leaves
+pub record ToldSetup (x : Set-up) (r : ℕ) (after : Lent) : Type 0 where
+  pub number : r ≡ told (x .answer)
+  pub lent-is : after ≡ x .lent
+
+-- put: the number, the lists, the scratch and the slot
+pub record ToldPut (x : Left ℕ) (stood r : ℕ) (after : Lent) (end : List ℕ) (n : ℕ) : Type 0 where
+  pub told-is : Told (x .answer) stood r n
+  pub lent-is : after ≡ x .lent
+  pub scratch-is : end ≡ x .scratch

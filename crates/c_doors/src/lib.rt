@@ -1,0 +1,153 @@
+// The doors once more, for a host in C or Rust to link: the calls of document 01 over numbers and lent lists, in no other words
+// than the doors'. A slice is a pointer and then a length. Each answers "0 or the refusal", by document 01's number, and gives
+// what was asked for through its last parameters: "A refusal answers its number only, and leaves heap and output as they stood."
+ghost use mathlib.Core.Path.{_≡_};
+ghost use Rattle.rules.specs.Calls.{setup, put-call, text-call, capacity-call, free-call, used-call};
+ghost use Rattle.heap_sound_rows.specs.Rows.{lists};
+ghost use Rattle.doors.specs.Answers.{put-answer, count-answer, block-answer};
+ghost use Rattle.c_doors.specs.Told.{Told, ToldBlock, ToldSetup, ToldPut};
+
+// "10 | setup, which gives no other": a fresh heap in the lent lists, whatever they held.
+#[no_mangle]
+pub extern "C" fn talvongre_setup(
+    words: &mut [u64],
+    map: &mut [u8],
+    bytes: &mut [u8],
+    elems: &mut [u64],
+    chunk: u64,
+) -> u32
+    ensures { λ r. ⌜ ToldSetup (setup chunk (lists (now (words .entry)) (now (map .entry)) (now (bytes .entry)) (now (elems .entry)))) r (lists (now (words .exit)) (now (map .exit)) (now (bytes .exit)) (now (elems .exit))) ⌝ }
+{
+    let a = doors::setup(words, map, bytes, elems, chunk);
+    match a {
+        doors::SetupAnswer::Done => 0,
+        doors::SetupAnswer::BadSetup => 10,
+    }
+}
+
+// A put's answer by number, and its slot.
+fn tell_slot(a: doors::PutAnswer, slot: &mut u64) -> u32
+    ensures { λ r. ⌜ Told (put-answer a) (now (slot .entry)) r (now (slot .exit)) ⌝ }
+{
+    match a {
+        doors::PutAnswer::Slot(s) => {
+            *slot = s;
+            0
+        }
+        doors::PutAnswer::Unsound => 20,
+        doors::PutAnswer::ShortScratch => 19,
+        doors::PutAnswer::Malformed(_, _) => 11,
+        doors::PutAnswer::OverLimit => 12,
+        doors::PutAnswer::EarlyLabel => 13,
+        doors::PutAnswer::NoSlots => 16,
+        doors::PutAnswer::NoRoom => 17,
+    }
+}
+
+// Puts a lent datum: 20, 19, 11, 12, 13, 16 or 17, or 0 and its slot.
+#[no_mangle]
+pub extern "C" fn talvongre_put(
+    words: &mut [u64],
+    map: &mut [u8],
+    bytes: &mut [u8],
+    elems: &mut [u64],
+    scratch: &mut [u64],
+    datum: &[u8],
+    slot: &mut u64,
+) -> u32
+    ensures { λ r. ⌜ ToldPut (put-call (lists (now (words .entry)) (now (map .entry)) (now (bytes .entry)) (now (elems .entry))) (now (scratch .entry)) (now (datum .entry))) (now (slot .entry)) r (lists (now (words .exit)) (now (map .exit)) (now (bytes .exit)) (now (elems .exit))) (now (scratch .exit)) (now (slot .exit)) ⌝ }
+{
+    let a = doors::put(words, map, bytes, elems, scratch, datum);
+    tell_slot(a, slot)
+}
+
+// A block's answer by number, and its place and size.
+fn tell_block(a: doors::TextBlock, place: &mut u64, size: &mut u64) -> u32
+    ensures { λ r. ⌜ ToldBlock (block-answer a) (now (place .entry)) (now (size .entry)) r (now (place .exit)) (now (size .exit)) ⌝ }
+{
+    match a {
+        doors::TextBlock::Held(p, n) => {
+            *place = p as u64;
+            *size = n as u64;
+            0
+        }
+        doors::TextBlock::Unsound => 20,
+        doors::TextBlock::NoSuchSlot => 14,
+        doors::TextBlock::WrongCell => 15,
+    }
+}
+
+// "A string or name is read as the part of the byte arena that holds it": 20, 14 or 15, or 0 with that part's place and size.
+#[no_mangle]
+pub extern "C" fn talvongre_text(
+    words: &[u64],
+    map: &[u8],
+    bytes: &[u8],
+    elems: &[u64],
+    slot: u64,
+    place: &mut u64,
+    size: &mut u64,
+) -> u32
+    ensures { λ r. ⌜ ToldBlock (text-call (lists (now (words .entry)) (now (map .entry)) (now (bytes .entry)) (now (elems .entry))) slot) (now (place .entry)) (now (size .entry)) r (now (place .exit)) (now (size .exit)) ⌝ }
+{
+    let a = doors::text_block(words, map, bytes, elems, slot);
+    tell_block(a, place, size)
+}
+
+// A count's answer by number, and the count.
+fn tell_count(a: doors::CountAnswer, count: &mut u64) -> u32
+    ensures { λ r. ⌜ Told (count-answer a) (now (count .entry)) r (now (count .exit)) ⌝ }
+{
+    match a {
+        doors::CountAnswer::Count(n) => {
+            *count = n;
+            0
+        }
+        doors::CountAnswer::Unsound => 20,
+    }
+}
+
+// The capacity: 20, or 0 and the count.
+#[no_mangle]
+pub extern "C" fn talvongre_capacity(
+    words: &[u64],
+    map: &[u8],
+    bytes: &[u8],
+    elems: &[u64],
+    count: &mut u64,
+) -> u32
+    ensures { λ r. ⌜ Told (capacity-call (lists (now (words .entry)) (now (map .entry)) (now (bytes .entry)) (now (elems .entry)))) (now (count .entry)) r (now (count .exit)) ⌝ }
+{
+    let a = doors::capacity(words, map, bytes, elems);
+    tell_count(a, count)
+}
+
+// The free count, the free list's length: 20, or 0 and the count.
+#[no_mangle]
+pub extern "C" fn talvongre_free(
+    words: &[u64],
+    map: &[u8],
+    bytes: &[u8],
+    elems: &[u64],
+    count: &mut u64,
+) -> u32
+    ensures { λ r. ⌜ Told (free-call (lists (now (words .entry)) (now (map .entry)) (now (bytes .entry)) (now (elems .entry)))) (now (count .entry)) r (now (count .exit)) ⌝ }
+{
+    let a = doors::free(words, map, bytes, elems);
+    tell_count(a, count)
+}
+
+// The used count, capacity less the free list: 20, or 0 and the count.
+#[no_mangle]
+pub extern "C" fn talvongre_used(
+    words: &[u64],
+    map: &[u8],
+    bytes: &[u8],
+    elems: &[u64],
+    count: &mut u64,
+) -> u32
+    ensures { λ r. ⌜ Told (used-call (lists (now (words .entry)) (now (map .entry)) (now (bytes .entry)) (now (elems .entry)))) (now (count .entry)) r (now (count .exit)) ⌝ }
+{
+    let a = doors::used(words, map, bytes, elems);
+    tell_count(a, count)
+}
