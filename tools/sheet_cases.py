@@ -220,6 +220,15 @@ for nodes in (
 accepted(sheet(["def=0", "vec=1024"] + ["num=-9223372036854775808"] * 1024))
 accepted(sheet(["def=%d" % n for n in range(60)] + ["vec=20"] + ["num=%d" % n for n in range(20)]))
 
+# ---- the examples, which stand beside their listings
+
+for name in sorted(os.listdir("examples")):
+    if name.endswith(".sheet"):
+        with open("examples/" + name, "rb") as given, open("examples/" + name[:-5] + "listing", "rb") as answer:
+            CASES.append((given.read(), answer.read()))
+        if not CASES[-1][1].startswith(b"refused="):
+            assert CASES[-1][1] == oracle(["sheet"], CASES[-1][0]), name
+
 BY_HAND = len(CASES)
 text = oracle(["random", str(SEED), str(COUNT), "sheets"], b"")
 CASES += list(zip(text.split(b"---\n"), oracle(["sheets"], text).split(b"---\n")))
