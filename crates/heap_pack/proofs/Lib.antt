@@ -1,0 +1,4 @@
+pub mod Packings
+pub mod CellLaws
+pub mod MoveLaws
+pub mod TurnLaws
