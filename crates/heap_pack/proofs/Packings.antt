@@ -7,6 +7,7 @@ use mathlib.Core.Option.{Option, none, some}
 use Prim.Native.Nat.{ℕ, zero, suc, _+_, _-_, _≤_, _<_}
 use native.Mathlib.Omega.{arith}
 use native.Mathlib.Nat.{add-zero, add-suc}
+use native.Mathlib.Numerals.{add-one}
 use native.Mathlib.Decide.{ℕ-discrete}
 use borrow.Author.Tests.{eqb-true, eqb-false, eq-eqb, ne-eqb, leb-true, ltb-true, ltb-false, lt-ltb, not-true}
 use lib.Dec.{eqb, leb, ltb}
@@ -21,6 +22,7 @@ use Rattle.rules.specs.Heap.{part-of}
 use Rattle.rules.specs.Collect.{Moved, Packing, place-of, pack-block, moved-block}
 use Rattle.rules.specs.Sound.{sound-rules}
 use Rattle.rules.proofs.Good.{apart, each-once}
+use Rattle.heap_pack.specs.Moves.{new-or}
 
 -- ---- blocks
 
@@ -67,7 +69,7 @@ positive (suc n) e = omega arith
 
 -- ---- where a block went
 
-abbrev move : Block → ℕ → Moved
+abbrev pub move : Block → ℕ → Moved
 move b k = record { from = b; place = k }
 
 abbrev place-in : Option Moved → Option ℕ
@@ -166,7 +168,7 @@ module _ {A : Type 0} (old : List A) (shows : ℕ → Block) (apart-all : (s t :
   -- ---- what is known after each slot
 
   -- the first slots packed
-  pub packed : ℕ → Packing A
+  unfoldable pub packed : ℕ → Packing A
   packed zero = record { room = []; moved = [] }
   packed (suc s) = pack-block old (shows s) (packed s)
 
@@ -176,7 +178,7 @@ module _ {A : Type 0} (old : List A) (shows : ℕ → Block) (apart-all : (s t :
     once : (k : ℕ) → count k (spots (p .moved)) ≤ 1
     below : every (λ k. ltb k (length old)) (spots (p .moved)) ≡ true
 
-  abbrev with-new : ℕ → Packing A → Packing A
+  abbrev pub with-new : ℕ → Packing A → Packing A
   with-new s p =
       record { room = p .room ++ part-of old (shows s); moved = p .moved ++ (move (shows s) (length (p .room)) ∷ []) }
 
@@ -300,7 +302,7 @@ module _ {A : Type 0} (old : List A) (shows : ℕ → Block) (apart-all : (s t :
   abbrev pub entry : Option ℕ → ℕ
   entry o = elim o [ none ↦ 0 | some k ↦ suc k ]
 
-  pub Tabled : Packing A → List ℕ → Type 0
+  unfoldable pub Tabled : Packing A → List ℕ → Type 0
   Tabled p table = (t : ℕ) → 0 < shows t .size → getD table (shows t .place) 0 ≡ entry (place-of (shows t) (p .moved))
 
   -- blocks that begin at one place are one block
@@ -328,3 +330,82 @@ module _ {A : Type 0} (old : List A) (shows : ℕ → Block) (apart-all : (s t :
           getD-set-other table (shows s .place) (shows t .place) (suc k) 0 d
           ∙ g t q
           ∙ ap entry (sym (place-other (shows t) (p .moved) (move (shows s) k) (unlike-blocks (shows s) (shows t) (λ z. d (sym (ap (λ (b : Block). b .place) z))))))
+
+  -- ---- one slot more
+
+  -- what a turn does to the room in use, the table and the place that it answers
+  pub record Stepped (s at : ℕ) (table : List ℕ) (to end : ℕ) (table′ : List ℕ) : Type 0 where
+    pub room : packed (suc s) .room ≡ new-or table (shows s .place) (packed s .room ++ part-of old (shows s)) (packed s .room)
+    pub long : end ≡ length (packed (suc s) .room)
+    pub listed : Tabled (packed (suc s)) table′
+    pub goes : place-of (shows s) (packed (suc s) .moved) ≡ some to
+
+  entry-new : (table : List ℕ) (place : ℕ) {B : Type 0} (x y : B) → getD table place 0 ≡ 0 → new-or table place x y ≡ x
+  entry-new table place x y e = ap (λ (b : Bool). choose b x y) (eq-eqb (getD table place 0) 0 e)
+
+  entry-known : (table : List ℕ) (place : ℕ) {B : Type 0} (x y : B) (k : ℕ) → getD table place 0 ≡ suc k → new-or table place x y ≡ y
+  entry-known table place x y k e = ap (λ (b : Bool). choose b x y) (ne-eqb (getD table place 0) 0 (λ z. omega (arith, e, z)))
+
+  pub step : (s at : ℕ) (table : List ℕ) (to end : ℕ) (table′ : List ℕ) → at ≡ length (packed s .room) → Tabled (packed s) table → 0 < shows s .size → shows s .place < length table → to ≡ new-or table (shows s .place) at (getD table (shows s .place) 0 - 1) → end ≡ new-or table (shows s .place) (at + shows s .size) at → table′ ≡ new-or table (shows s .place) (set table (shows s .place) (at + 1)) table → Stepped s at table to end table′
+  unfolding packed Tabled
+  step s at table to end table′ long listed h l t n w = by (place-of (shows s) (packed s .moved)) refl
+    where
+      suc-less : (k : ℕ) → suc k - 1 ≡ k
+      suc-less k = omega arith
+
+      by : (o : Option ℕ) → place-of (shows s) (packed s .moved) ≡ o → Stepped s at table to end table′
+      by none e =
+          let z : getD table (shows s .place) 0 ≡ 0 = listed s h ∙ ap entry e in
+          let p = new-moves s (packed s) h e in
+          record {
+            room = ap (λ (x : Packing A). x .room) p ∙ sym (entry-new table (shows s .place) _ _ z);
+            long =
+                n ∙ entry-new table (shows s .place) _ _ z
+                ∙ omega (arith, long, length-append (packed s .room) (part-of old (shows s)), part-size s, ap (λ (x : Packing A). length (x .room)) p);
+            listed =
+                subst (λ (x : Packing A). Tabled x table′) (sym p)
+                (subst (Tabled (with-new s (packed s))) (sym (w ∙ entry-new table (shows s .place) _ _ z ∙ ap (set table (shows s .place)) (add-one at ∙ ap suc long)))
+                (tabled-new s (packed s) table h l e listed));
+            goes = ap (λ (x : Packing A). place-of (shows s) (x .moved)) p ∙ place-new (shows s) (packed s .moved) (length (packed s .room)) e ∙ ap some (sym (t ∙ entry-new table (shows s .place) _ _ z ∙ long));
+          }
+      by (some k) e =
+          let z : getD table (shows s .place) 0 ≡ suc k = listed s h ∙ ap entry e in
+          let p = known-stays s (packed s) k h e in
+          record {
+            room = ap (λ (x : Packing A). x .room) p ∙ sym (entry-known table (shows s .place) _ _ k z);
+            long = n ∙ entry-known table (shows s .place) _ _ k z ∙ long ∙ ap (λ (x : Packing A). length (x .room)) (sym p);
+            listed = subst (λ (x : Packing A). Tabled x table′) (sym p) (subst (Tabled (packed s)) (sym (w ∙ entry-known table (shows s .place) _ _ k z)) listed);
+            goes =
+                ap (λ (x : Packing A). place-of (shows s) (x .moved)) p ∙ e
+                ∙ ap some (sym (t ∙ entry-known table (shows s .place) _ _ k z ∙ ap (λ (m : ℕ). m - 1) z ∙ suc-less k));
+          }
+
+  -- a new block fits: the table has nothing at its place
+  pub table-fits : (s : ℕ) (table : List ℕ) → Tabled (packed s) table → 0 < shows s .size → getD table (shows s .place) 0 ≡ 0 → length (packed s .room) + shows s .size ≤ length old
+  unfolding Tabled
+  table-fits s table listed h z = by (place-of (shows s) (packed s .moved)) refl
+    where
+      by : (o : Option ℕ) → place-of (shows s) (packed s .moved) ≡ o → length (packed s .room) + shows s .size ≤ length old
+      by none e = fits s h e
+      by (some k) e = absurd (omega (arith, z, listed s h, ap entry e))
+
+  -- at first nothing is moved
+  pub tabled-none : (table : List ℕ) → ((k : ℕ) → getD table k 0 ≡ 0) → Tabled (packed 0) table
+  unfolding packed Tabled
+  tabled-none table clear t h = clear (shows t .place) ∙ ap entry (sym (place-none (shows t)))
+
+  -- an empty turn changes nothing
+  pub packed-empty : (s : ℕ) → shows s .size ≡ 0 → packed (suc s) ≡ packed s
+  unfolding packed
+  packed-empty s e = empty-stays s (packed s) e
+
+  -- an empty block is never moved
+  none-empty : (b : Block) (ms : List Moved) → Of-slots ms → b .size ≡ 0 → place-of b ms ≡ none
+  unfolding Of-slots
+  none-empty b [] a e = place-none b
+  none-empty b (m ∷ ms) a e =
+      look b m ms false (unlike-blocks (m .from) b (λ z. omega (arith, a .0 .some-of-it, ap (λ (x : Block). x .size) z, e)))
+      ∙ none-empty b ms (a .1) e
+
+  pub empty-nowhere : (b : Block) (s : ℕ) → b .size ≡ 0 → place-of b (packed s .moved) ≡ none
+  empty-nowhere b s e = none-empty b (packed s .moved) (packs s .of-slots) e

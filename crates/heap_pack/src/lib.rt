@@ -8,10 +8,12 @@ ghost use mathlib.Core.List.{List};
 ghost use Prim.Native.Nat.{ℕ, _+_, _*_, _/_, _≤_, _<_};
 ghost use lib.ListN.{length, getD};
 ghost use Rattle.rules.specs.Cells.{block};
+ghost use Rattle.rules.specs.Heap.{Heap};
 ghost use Rattle.rules.specs.Sound.{text-block, vector-block};
 ghost use Rattle.leaf_cells.specs.Cells.{cell-of};
 ghost use Rattle.leaf_cells.specs.Words.{stored};
 ghost use Rattle.heap_pack.specs.Moves.{shown, placed, Written, TextMoved, ElementsMoved, TextReady, TextTurned, ElementsReady, ElementsTurned};
+ghost use Rattle.heap_pack.specs.Passes.{TextsBegin, TextsEnd, TextsLent, TextsPacked};
 
 // A block: its place and its length.
 pub struct Span {
@@ -188,4 +190,31 @@ fn pack_elements(
     let g = move_elements(elems, old, table, at, b.place, b.size);
     leaf_cells::store(words, s, with_place(c, g.to));
     g.at
+}
+
+// Slot after slot: the texts, in the order of the slots that show them.
+fn text_turns(words: &mut [u64], bytes: &mut [u8], old: &[u8], table: &mut [u32]) -> usize
+    requires { ⌜ ((n : ℕ) × (h : Heap) × (room : ℕ) × TextsBegin n h room (now words) (now bytes) (now old) (now table)) ⌝ }
+    ensures { λ r. ⌜ ((n : ℕ) (h : Heap) (room : ℕ) → TextsBegin n h room (now (words .entry)) (now (bytes .entry)) (now (old .entry)) (now (table .entry)) → TextsEnd n h room (now (words .exit)) (now (bytes .exit)) r) ⌝ }
+{
+    let capacity = words[1] as usize;
+    let mut at = 0;
+    let mut s = 0;
+    while s < capacity {
+        at = pack_text(words, bytes, old, table, at, s);
+        s += 1;
+    }
+    at
+}
+
+// The texts packed, with an arena aside and a table that are lent clear.
+fn pack_texts_in(words: &mut [u64], bytes: &mut [u8], old: &mut [u8], table: &mut [u32])
+    requires { ⌜ ((n : ℕ) × (h : Heap) × (room : ℕ) × TextsLent n h room (now words) (now bytes) (now old) (now table)) ⌝ }
+    ensures { λ _. ⌜ ((n : ℕ) (h : Heap) (room : ℕ) → TextsLent n h room (now (words .entry)) (now (bytes .entry)) (now (old .entry)) (now (table .entry)) → TextsPacked n h room (now (words .exit)) (now (bytes .exit))) ⌝ }
+{
+    let used = words[4] as usize;
+    leaf_cells::write_bytes(old, 0, &bytes[..used]);
+    let end = text_turns(words, bytes, old, table);
+    leaf_clear::clear_bytes(&mut bytes[end..used]);
+    words[4] = end as u64;
 }

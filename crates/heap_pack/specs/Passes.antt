@@ -1,0 +1,113 @@
+-- The two passes of packing, texts and then elements, and how far each has come. Assumes nothing.
+use mathlib.Core.Path.{_≡_}
+use mathlib.Core.List.{List, [], _∷_, _++_, map}
+use Prim.Native.Nat.{ℕ, _*_, _≤_}
+use lib.ListN.{length, getD, take, drop}
+use Rattle.laws.specs.Basics.{join}
+use Rattle.rules.specs.Cells.{Value, Block, block, Cell, plain, pair, symbol, string, vector}
+use Rattle.rules.specs.Heap.{Heap, capacity}
+use Rattle.rules.specs.Layout.{words-of, filled, value-words}
+use Rattle.rules.specs.Collect.{Moved, Packing, Packed, pack-cells, moved-block}
+use Rattle.rules.proofs.Good.{Good}
+
+abbrev pub none-packed : Packed
+none-packed = record { texts = record { room = []; moved = [] }; vectors = record { room = []; moved = [] } }
+
+abbrev pub texts-of : Heap → Packing ℕ
+texts-of h = pack-cells h (h .cells) none-packed .texts
+
+abbrev pub vectors-of : Heap → Packing Value
+vectors-of h = pack-cells h (h .cells) none-packed .vectors
+
+-- a cell whose text was moved
+abbrev pub text-placed : List Moved → Cell → Cell
+text-placed ms (plain s) = plain s
+text-placed ms (pair a d) = pair a d
+text-placed ms (symbol b) = symbol (moved-block b ms)
+text-placed ms (string b) = string (moved-block b ms)
+text-placed ms (vector b) = vector b
+
+abbrev pub vector-placed : List Moved → Cell → Cell
+vector-placed ms (plain s) = plain s
+vector-placed ms (pair a d) = pair a d
+vector-placed ms (symbol b) = symbol b
+vector-placed ms (string b) = string b
+vector-placed ms (vector b) = vector (moved-block b ms)
+
+abbrev pub with-cells : Heap → List Cell → Heap
+with-cells h cs =
+    record {
+      chunk = h .chunk;
+      cells = cs;
+      map = h .map;
+      free = h .free;
+      table = h .table;
+      bytes = h .bytes;
+      elements = h .elements;
+    }
+
+-- the first cells changed
+abbrev pub changed : (Cell → Cell) → ℕ → List Cell → List Cell
+changed f s cs = map f (take s cs) ++ drop s cs
+
+-- the heap with its texts packed, with its elements packed
+abbrev pub with-texts : Heap → Heap
+with-texts h =
+    record {
+      chunk = h .chunk;
+      cells = map (text-placed (texts-of h .moved)) (h .cells);
+      map = h .map;
+      free = h .free;
+      table = h .table;
+      bytes = texts-of h .room;
+      elements = h .elements;
+    }
+
+abbrev pub with-vectors : Heap → Heap
+with-vectors h =
+    record {
+      chunk = h .chunk;
+      cells = map (vector-placed (vectors-of h .moved)) (h .cells);
+      map = h .map;
+      free = h .free;
+      table = h .table;
+      bytes = h .bytes;
+      elements = vectors-of h .room;
+    }
+
+-- ---- the pass over the texts
+
+pub record TextsBegin (n : ℕ) (h : Heap) (room : ℕ) (words bytes old table : List ℕ) : Type 0 where
+  pub good : Good h
+  pub rows : capacity h ≤ n
+  pub few : n ≤ 4096
+  pub within : length (h .bytes) ≤ room
+  pub most : room ≤ 65536
+  pub words-are : words ≡ words-of n h
+  pub bytes-are : bytes ≡ filled room (h .bytes)
+  pub old-is : take (length (h .bytes)) old ≡ h .bytes
+  pub old-long : length (h .bytes) ≤ length old
+  pub table-clear : (k : ℕ) → getD table k 0 ≡ 0
+  pub table-long : length table ≡ 65536
+
+pub record TextsEnd (n : ℕ) (h : Heap) (room : ℕ) (words bytes : List ℕ) (r : ℕ) : Type 0 where
+  pub words-are : words ≡ words-of n (with-cells h (map (text-placed (texts-of h .moved)) (h .cells)))
+  pub bytes-are : bytes ≡ texts-of h .room ++ drop r (filled room (h .bytes))
+  pub used : r ≡ length (texts-of h .room)
+
+-- the lists of a heap, and room aside
+pub record TextsLent (n : ℕ) (h : Heap) (room : ℕ) (words bytes old table : List ℕ) : Type 0 where
+  pub good : Good h
+  pub rows : capacity h ≤ n
+  pub few : n ≤ 4096
+  pub within : length (h .bytes) ≤ room
+  pub most : room ≤ 65536
+  pub words-are : words ≡ words-of n h
+  pub bytes-are : bytes ≡ filled room (h .bytes)
+  pub old-long : length old ≡ 65536
+  pub table-clear : (k : ℕ) → getD table k 0 ≡ 0
+  pub table-long : length table ≡ 65536
+
+pub record TextsPacked (n : ℕ) (h : Heap) (room : ℕ) (words bytes : List ℕ) : Type 0 where
+  pub words-are : words ≡ words-of n (with-texts h)
+  pub bytes-are : bytes ≡ filled room (with-texts h .bytes)
