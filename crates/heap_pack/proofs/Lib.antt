@@ -2,5 +2,8 @@ pub mod Packings
 pub mod CellLaws
 pub mod MoveLaws
 pub mod TurnLaws
+pub mod RoomLaws
 pub mod TextLaws
 pub mod TextEnds
+pub mod ElementLaws
+pub mod ElementEnds

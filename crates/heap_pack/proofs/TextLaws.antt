@@ -30,7 +30,7 @@ use Rattle.heap_pack.proofs.Packings as packing
 
 -- ---- the rules' packing of all cells, as packing slot after slot
 
-pack-last : (h : Heap) (cs : List Cell) (c : Cell) (p : Packed) → pack-cells h (cs ++ (c ∷ [])) p ≡ pack-cell h c (pack-cells h cs p)
+pub pack-last : (h : Heap) (cs : List Cell) (c : Cell) (p : Packed) → pack-cells h (cs ++ (c ∷ [])) p ≡ pack-cell h c (pack-cells h cs p)
 unfolding collect-rules
 pack-last h [] c p = refl
 pack-last h (x ∷ cs) c p = pack-last h cs c (pack-cell h x p)
@@ -45,28 +45,28 @@ text-packed h (vector b) p = refl
 
 -- ---- the first cells changed
 
-changed-at : (f : Cell → Cell) (s : ℕ) (cs : List Cell) (d : Cell) → getD (changed f s cs) s d ≡ getD cs s d
+pub changed-at : (f : Cell → Cell) (s : ℕ) (cs : List Cell) (d : Cell) → getD (changed f s cs) s d ≡ getD cs s d
 changed-at f zero cs d = refl
 changed-at f (suc s) [] d = refl
 changed-at f (suc s) (x ∷ cs) d = changed-at f s cs d
 
-changed-next : (f : Cell → Cell) (s : ℕ) (cs : List Cell) (c d : Cell) → s < length cs → c ≡ f (getD cs s d) → set (changed f s cs) s c ≡ changed f (suc s) cs
+pub changed-next : (f : Cell → Cell) (s : ℕ) (cs : List Cell) (c d : Cell) → s < length cs → c ≡ f (getD cs s d) → set (changed f s cs) s c ≡ changed f (suc s) cs
 changed-next f zero [] c d h e = absurd (omega arith)
 changed-next f zero (x ∷ cs) c d h e = ap (λ (y : Cell). y ∷ cs) e
 changed-next f (suc s) [] c d h e = absurd (omega arith)
 changed-next f (suc s) (x ∷ cs) c d h e = ap (λ (l : List Cell). f x ∷ l) (changed-next f s cs c d (omega arith) e)
 
-changed-same : (f : Cell → Cell) (s : ℕ) (cs : List Cell) (d : Cell) → s < length cs → f (getD cs s d) ≡ getD cs s d → changed f s cs ≡ changed f (suc s) cs
+pub changed-same : (f : Cell → Cell) (s : ℕ) (cs : List Cell) (d : Cell) → s < length cs → f (getD cs s d) ≡ getD cs s d → changed f s cs ≡ changed f (suc s) cs
 changed-same f zero [] d h e = absurd (omega arith)
 changed-same f zero (x ∷ cs) d h e = ap (λ (y : Cell). y ∷ cs) (sym e)
 changed-same f (suc s) [] d h e = absurd (omega arith)
 changed-same f (suc s) (x ∷ cs) d h e = ap (λ (l : List Cell). f x ∷ l) (changed-same f s cs d (omega arith) e)
 
-changed-all : (f : Cell → Cell) (cs : List Cell) → changed f (length cs) cs ≡ map f cs
+pub changed-all : (f : Cell → Cell) (cs : List Cell) → changed f (length cs) cs ≡ map f cs
 changed-all f [] = refl
 changed-all f (x ∷ cs) = ap (λ (l : List Cell). f x ∷ l) (changed-all f cs)
 
-changed-length : (f : Cell → Cell) (s : ℕ) (cs : List Cell) → length (changed f s cs) ≡ length cs
+pub changed-length : (f : Cell → Cell) (s : ℕ) (cs : List Cell) → length (changed f s cs) ≡ length cs
 changed-length f zero cs = refl
 changed-length f (suc s) [] = refl
 changed-length f (suc s) (x ∷ cs) = ap suc (changed-length f s cs)

@@ -111,3 +111,42 @@ pub record TextsLent (n : ℕ) (h : Heap) (room : ℕ) (words bytes old table : 
 pub record TextsPacked (n : ℕ) (h : Heap) (room : ℕ) (words bytes : List ℕ) : Type 0 where
   pub words-are : words ≡ words-of n (with-texts h)
   pub bytes-are : bytes ≡ filled room (with-texts h .bytes)
+
+-- ---- the pass over the elements, three words each
+
+abbrev pub value-list : List Value → List ℕ
+value-list vs = join value-words vs
+
+pub record ElementsBegin (n : ℕ) (h : Heap) (room : ℕ) (words elems old table : List ℕ) : Type 0 where
+  pub good : Good h
+  pub rows : capacity h ≤ n
+  pub few : n ≤ 4096
+  pub within : length (h .elements) ≤ room
+  pub most : room ≤ 16384
+  pub words-are : words ≡ words-of n h
+  pub elems-are : elems ≡ filled (3 * room) (value-list (h .elements))
+  pub old-is : take (3 * length (h .elements)) old ≡ value-list (h .elements)
+  pub old-long : 3 * length (h .elements) ≤ length old
+  pub table-clear : (k : ℕ) → getD table k 0 ≡ 0
+  pub table-long : length table ≡ 16384
+
+pub record ElementsEnd (n : ℕ) (h : Heap) (room : ℕ) (words elems : List ℕ) (r : ℕ) : Type 0 where
+  pub words-are : words ≡ words-of n (with-cells h (map (vector-placed (vectors-of h .moved)) (h .cells)))
+  pub elems-are : elems ≡ value-list (vectors-of h .room) ++ drop (3 * r) (filled (3 * room) (value-list (h .elements)))
+  pub used : r ≡ length (vectors-of h .room)
+
+pub record ElementsLent (n : ℕ) (h : Heap) (room : ℕ) (words elems old table : List ℕ) : Type 0 where
+  pub good : Good h
+  pub rows : capacity h ≤ n
+  pub few : n ≤ 4096
+  pub within : length (h .elements) ≤ room
+  pub most : room ≤ 16384
+  pub words-are : words ≡ words-of n h
+  pub elems-are : elems ≡ filled (3 * room) (value-list (h .elements))
+  pub old-long : length old ≡ 49152
+  pub table-clear : (k : ℕ) → getD table k 0 ≡ 0
+  pub table-long : length table ≡ 16384
+
+pub record ElementsPacked (n : ℕ) (h : Heap) (room : ℕ) (words elems : List ℕ) : Type 0 where
+  pub words-are : words ≡ words-of n (with-vectors h)
+  pub elems-are : elems ≡ filled (3 * room) (value-list (with-vectors h .elements))

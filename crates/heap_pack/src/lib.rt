@@ -13,7 +13,7 @@ ghost use Rattle.rules.specs.Sound.{text-block, vector-block};
 ghost use Rattle.leaf_cells.specs.Cells.{cell-of};
 ghost use Rattle.leaf_cells.specs.Words.{stored};
 ghost use Rattle.heap_pack.specs.Moves.{shown, placed, Written, TextMoved, ElementsMoved, TextReady, TextTurned, ElementsReady, ElementsTurned};
-ghost use Rattle.heap_pack.specs.Passes.{TextsBegin, TextsEnd, TextsLent, TextsPacked};
+ghost use Rattle.heap_pack.specs.Passes.{TextsBegin, TextsEnd, TextsLent, TextsPacked, ElementsBegin, ElementsEnd, ElementsLent, ElementsPacked};
 
 // A block: its place and its length.
 pub struct Span {
@@ -217,4 +217,31 @@ fn pack_texts_in(words: &mut [u64], bytes: &mut [u8], old: &mut [u8], table: &mu
     let end = text_turns(words, bytes, old, table);
     leaf_clear::clear_bytes(&mut bytes[end..used]);
     words[4] = end as u64;
+}
+
+// The same of the elements.
+fn element_turns(words: &mut [u64], elems: &mut [u64], old: &[u64], table: &mut [u32]) -> usize
+    requires { ⌜ ((n : ℕ) × (h : Heap) × (room : ℕ) × ElementsBegin n h room (now words) (now elems) (now old) (now table)) ⌝ }
+    ensures { λ r. ⌜ ((n : ℕ) (h : Heap) (room : ℕ) → ElementsBegin n h room (now (words .entry)) (now (elems .entry)) (now (old .entry)) (now (table .entry)) → ElementsEnd n h room (now (words .exit)) (now (elems .exit)) r) ⌝ }
+{
+    let capacity = words[1] as usize;
+    let mut at = 0;
+    let mut s = 0;
+    while s < capacity {
+        at = pack_elements(words, elems, old, table, at, s);
+        s += 1;
+    }
+    at
+}
+
+fn pack_elements_in(words: &mut [u64], elems: &mut [u64], old: &mut [u64], table: &mut [u32])
+    requires { ⌜ ((n : ℕ) × (h : Heap) × (room : ℕ) × ElementsLent n h room (now words) (now elems) (now old) (now table)) ⌝ }
+    ensures { λ _. ⌜ ((n : ℕ) (h : Heap) (room : ℕ) → ElementsLent n h room (now (words .entry)) (now (elems .entry)) (now (old .entry)) (now (table .entry)) → ElementsPacked n h room (now (words .exit)) (now (elems .exit))) ⌝ }
+{
+    let used = 3 * words[5] as usize;
+    write_words(old, 0, &elems[..used]);
+    let end = element_turns(words, elems, old, table);
+    let from = 3 * end;
+    leaf_clear::clear_words(&mut elems[from..used]);
+    words[5] = end as u64;
 }

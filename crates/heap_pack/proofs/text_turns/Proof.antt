@@ -7,9 +7,6 @@ use Rattle.heap_pack.proofs.TextLaws.{So-far, header-in, so-far-none, s
 use borrow.Author.Needs.{needs}
 use Rattle.heap_pack.proofs.text_turns.Statement.{statement}
 use Rattle.heap_pack.proofs.text_turns.Tie as tie
-use Rattle.heap_pack.proofs.text_turns.Reads as reads
-use Rattle.heap_pack.proofs.text_turns.Lts as lts
-use Rattle.heap_pack.proofs.pack_text.Reads as pack-text-reads
 
 abbrev Inv-loop : tie.InvT-loop
 Inv-loop words₀ bytes₀ old table₀ capacity at₀ s₀ words bytes table at s = (capacity ≡ getD words₀ 1 0) × ((length words ≡ length words₀) × ((length bytes ≡ length bytes₀) × ((length table ≡ length table₀) × So-far words₀ bytes₀ old table₀ words bytes table at s)))
@@ -17,43 +14,33 @@ Inv-loop words₀ bytes₀ old table₀ capacity at₀ s₀ words bytes table at
 abbrev μ-loop : tie.MeasureT-loop
 μ-loop words₀ bytes₀ old table₀ capacity at₀ s₀ words bytes table at s = capacity - s
 
--- src/lib.rt:200:20
 slice-read-capacity : tie.Need-slice-read-capacity Inv-loop μ-loop
 slice-read-capacity c = omega (arith, header-in (c .before .before .before .before .before .pre .0) (c .before .before .before .before .before .pre .1) (c .before .before .before .before .before .args .words .now) (c .before .before .before .before .before .pre .3 .words-are))
 
--- src/lib.rt:203:5
 loop-holds : tie.Need-loop-holds Inv-loop μ-loop
 loop-holds c = (refl, (refl, (refl, (refl, so-far-none (c .before .before .before .before .before .args .words .now) (c .before .before .before .before .before .args .bytes .now) (c .before .before .before .before .before .args .old .now) (c .before .before .before .before .before .args .table .now)))))
 
--- src/lib.rt:204:9
 pack-text-requires : tie.Need-pack-text-requires Inv-loop μ-loop
 pack-text-requires c κs = so-far-ready (c .before .before .before .before .before .before .before .before .before .before .args .words .now) (c .before .before .before .before .before .before .before .before .before .before .args .bytes .now) (c .before .before .before .before .before .before .before .before .before .before .args .old .now) (c .before .before .before .before .before .before .before .before .before .before .args .table .now) (c .before .before .before .before .loop .words) (c .before .before .before .before .loop .bytes) (c .before .before .before .before .loop .table) (c .before .before .before .before .loop .at) (c .before .before .before .before .loop .s) (c .before .before .before .before .loop .inv .1 .1 .1 .1) (c .before .before .before .before .before .before .before .before .before .before .pre .0) (c .before .before .before .before .before .before .before .before .before .before .pre .1) (c .before .before .before .before .before .before .before .before .before .before .pre .2) (c .before .before .before .before .before .before .before .before .before .before .pre .3) (omega (arith, c .before .before .before .before .loop .inv .0, c .before .before .before .loop-test .taken))
 
--- src/lib.rt:205:9
 add-s : tie.Need-add-s Inv-loop μ-loop
 add-s c = omega (arith, c .before .before .before .before .before .before .before .before .before .before .loop-test .taken, c .before .before .before .before .before .before .before .before .before .before .before .loop .inv .0, c .before .before .before .before .before .before .before .before .before .before .before .before .before .before .before .before .slice-known .given 1)
 
--- src/lib.rt:203:5
 loop-less : tie.Need-loop-less Inv-loop μ-loop
 loop-less c = search needs
 
--- src/lib.rt:203:5
 loop-again : tie.Need-loop-again Inv-loop μ-loop
 loop-again c = (c .before .before .before .before .before .before .before .before .before .before .before .loop .inv .0, (c .before .before .before .before .before .before .pack-text .kept .0 ∙ c .before .before .before .before .before .before .before .before .before .before .before .loop .inv .1 .0, (c .before .before .before .before .before .before .pack-text .kept .1 .0 ∙ c .before .before .before .before .before .before .before .before .before .before .before .loop .inv .1 .1 .0, (c .before .before .before .before .before .before .pack-text .kept .1 .1 .1 .0 ∙ c .before .before .before .before .before .before .before .before .before .before .before .loop .inv .1 .1 .1 .0, so-far-on (c .before .before .before .before .before .before .before .before .before .before .before .before .before .before .before .before .before .args .words .now) (c .before .before .before .before .before .before .before .before .before .before .before .before .before .before .before .before .before .args .bytes .now) (c .before .before .before .before .before .before .before .before .before .before .before .before .before .before .before .before .before .args .old .now) (c .before .before .before .before .before .before .before .before .before .before .before .before .before .before .before .before .before .args .table .now) (c .before .before .before .before .before .before .before .before .before .before .before .loop .words) (c .before .before .before .before .before .before .before .before .before .before .before .loop .bytes) (c .before .before .before .before .before .before .before .before .before .before .before .loop .table) (c .before .before .before .before .before .before .before .before .before .before .before .loop .at) (c .before .before .before .before .before .before .before .before .before .before .before .loop .s) (c .before .before .before .before .before .before .before .before .before .before .before .loop .inv .1 .1 .1 .1) _ _ _ _ (omega (arith, c .before .before .before .before .before .before .before .before .before .before .before .loop .inv .0, c .before .before .before .before .before .before .before .before .before .before .loop-test .taken)) (c .before .before .before .before .before .before .pack-text .ensures)))))
 
--- src/lib.rt:196:1
 same-length : tie.Need-same-length Inv-loop μ-loop
 same-length c = c .before .loop .inv .1 .0
 
--- src/lib.rt:196:1
 same-length-2 : tie.Need-same-length-2 Inv-loop μ-loop
 same-length-2 c = c .before .loop .inv .1 .1 .0
 
--- src/lib.rt:196:1
 same-length-3 : tie.Need-same-length-3 Inv-loop μ-loop
 same-length-3 c = c .before .loop .inv .1 .1 .1 .0
 
--- src/lib.rt:196:1
 returns : tie.Need-returns Inv-loop μ-loop
 returns c = so-far-ends (c .before .before .before .before .before .before .before .args .words .now) (c .before .before .before .before .before .before .before .args .bytes .now) (c .before .before .before .before .before .before .before .args .old .now) (c .before .before .before .before .before .before .before .args .table .now) (c .before .loop .words) (c .before .loop .bytes) (c .before .loop .table) (c .before .loop .at) (c .before .loop .s) (c .before .loop .inv .1 .1 .1 .1) (omega (arith, c .before .loop .inv .0, c .loop-test .left))
 
