@@ -18,14 +18,13 @@ use Rattle.rules.specs.Heap.{Heap, capacity, cell-at, part-of, with-cell}
 use Rattle.rules.specs.Layout.{words-of, filled, value-words, layout-rules}
 use Rattle.rules.specs.Collect.{Moved, Packing, Packed, place-of, pack-block, moved-block, pack-cell, pack-cells, collect-rules}
 use Rattle.rules.specs.Sound.{vector-block, lies-in, sound-rules}
-use Rattle.rules.proofs.Good.{Good, apart}
 use Rattle.rules.proofs.LentLaws.{value-width, words-length, filled-length, elements-length}
 use Rattle.leaf_cells.specs.Cells.{loaded, stored-cell}
 use Rattle.leaf_cells.proofs.CallLaws.{load-on}
 use Rattle.leaf_cells.proofs.HeapLaws.{stored-cell-is}
 use Rattle.heap_pack.specs.declared.Gone.{Gone}
 use Rattle.heap_pack.specs.Moves.{placed, Written, ElementsMoved, ElementsReady, ElementsTurned, no-vector, vector-goes}
-use Rattle.heap_pack.specs.Passes.{none-packed, value-list, vectors-of, vector-placed, with-cells, changed, ElementsBegin, ElementsEnd}
+use Rattle.heap_pack.specs.Passes.{none-packed, value-list, vectors-of, vector-placed, with-cells, changed, Vectors-apart, ElementsBegin, ElementsEnd}
 use Rattle.heap_pack.proofs.Packings as packing
 use Rattle.heap_pack.proofs.TextLaws.{pack-last, changed-at, changed-next, changed-same, changed-all, changed-length, capacity-in}
 
@@ -65,7 +64,7 @@ values-append vs ws = join-append value-words vs ws
 
 -- ---- the rules' packing of all cells, as packing slot after slot
 
-vector-packed : (h : Heap) (c : Cell) (p : Packed) → pack-cell h c p .vectors ≡ pack-block (h .elements) (vector-block c) (p .vectors)
+pub vector-packed : (h : Heap) (c : Cell) (p : Packed) → pack-cell h c p .vectors ≡ pack-block (h .elements) (vector-block c) (p .vectors)
 unfolding collect-rules sound-rules
 vector-packed h (plain s) p = refl
 vector-packed h (pair a d) p = refl
@@ -73,16 +72,16 @@ vector-packed h (symbol b) p = refl
 vector-packed h (string b) p = refl
 vector-packed h (vector b) p = refl
 
-module _ (h : Heap) (good : Good h) where
+module _ (h : Heap) (good : Vectors-apart h) where
   abbrev shows : ℕ → Block
   shows t = vector-block (cell-at h t)
 
   pub inside : (s : ℕ) → shows s .place + shows s .size ≤ length (h .elements)
   unfolding sound-rules
-  inside s = leb-true _ _ (both-left (leb (shows s .place + shows s .size) (length (h .elements))) _ (good .cells s .vector-in))
+  inside s = leb-true _ _ (both-left (leb (shows s .place + shows s .size) (length (h .elements))) _ (good .lies s))
 
   abbrev packed : ℕ → Packing Value
-  packed s = packing.packed (h .elements) shows (good .vectors) inside s
+  packed s = packing.packed (h .elements) shows (good .apart-all) inside s
 
   packed-is : (s : ℕ) → s ≤ capacity h → packed s ≡ pack-cells h (take s (h .cells)) none-packed .vectors
   unfolding packing.packed collect-rules
@@ -104,7 +103,7 @@ module _ (h : Heap) (good : Good h) where
       omega (
         arith,
         ap (λ (p : Packing Value). length (p .room)) packed-all,
-        packing.room-small (h .elements) shows (good .vectors) inside (capacity h),
+        packing.room-small (h .elements) shows (good .apart-all) inside (capacity h),
       )
 
   -- ---- how far the pass has come
@@ -116,7 +115,7 @@ module _ (h : Heap) (good : Good h) where
     pub words-are : words ≡ words-of n (with-cells h (changed f s (h .cells)))
     pub long : at ≡ length (packed s .room)
     pub elems-are : elems ≡ value-list (packed s .room) ++ drop (3 * at) (filled (3 * room) (value-list (h .elements)))
-    pub listed : packing.Tabled (h .elements) shows (good .vectors) inside (packed s) table
+    pub listed : packing.Tabled (h .elements) shows (good .apart-all) inside (packed s) table
     pub table-long : length table ≡ 16384
 
   module _ (n room : ℕ) (words₀ elems₀ old table₀ : List ℕ) (b : ElementsBegin n h room words₀ elems₀ old table₀) where
@@ -127,7 +126,7 @@ module _ (h : Heap) (good : Good h) where
           words-are = b .words-are;
           long = refl;
           elems-are = b .elems-are;
-          listed = packing.tabled-none (h .elements) shows (good .vectors) inside table₀ (b .table-clear);
+          listed = packing.tabled-none (h .elements) shows (good .apart-all) inside table₀ (b .table-clear);
           table-long = b .table-long;
         }
 
@@ -150,7 +149,7 @@ module _ (h : Heap) (good : Good h) where
             elements-length (packed s .room),
             length-drop (3 * at) (filled (3 * room) (value-list (h .elements))),
             filled-length (3 * room) (value-list (h .elements)) (omega (arith, elements-length (h .elements), b .within)),
-            packing.room-small (h .elements) shows (good .vectors) inside s,
+            packing.room-small (h .elements) shows (good .apart-all) inside s,
             b .within,
             g .long,
           )
@@ -170,9 +169,9 @@ module _ (h : Heap) (good : Good h) where
               record {
                 inside = omega (arith, inside s, b .old-long);
                 listed = omega (arith, inside s, b .within, b .most, g .table-long);
-                fits = λ z. omega (arith, packing.table-fits (h .elements) shows (good .vectors) inside s table (g .listed) held z, g .long, b .within, room-long);
-                begins = omega (arith, packing.room-small (h .elements) shows (good .vectors) inside s, g .long, b .within, room-long);
-                small = omega (arith, packing.room-small (h .elements) shows (good .vectors) inside s, g .long, b .within, b .most);
+                fits = λ z. omega (arith, packing.table-fits (h .elements) shows (good .apart-all) inside s table (g .listed) held z, g .long, b .within, room-long);
+                begins = omega (arith, packing.room-small (h .elements) shows (good .apart-all) inside s, g .long, b .within, room-long);
+                small = omega (arith, packing.room-small (h .elements) shows (good .apart-all) inside s, g .long, b .within, b .most);
               }
 
       -- the cell after its turn is the cell with its block where it went
@@ -182,7 +181,7 @@ module _ (h : Heap) (good : Good h) where
           let last : place-of (shows s) (vectors-of h .moved) ≡ some k =
           ap (λ (p : Packing Value). place-of (shows s) (p .moved)) (sym packed-all)
           ∙ ap (λ (m : ℕ). place-of (shows s) (packed m .moved)) (sym up)
-          ∙ packing.stays-to (h .elements) shows (good .vectors) inside (shows s) (suc s) (capacity h - suc s) k e
+          ∙ packing.stays-to (h .elements) shows (good .apart-all) inside (shows s) (suc s) (capacity h - suc s) k e
           in
           ap (λ (o : Option ℕ). elim o as (λ o. Block) [ none ↦ block 0 (shows s .size) | some j ↦ block j (shows s .size) ]) last
         where
@@ -195,10 +194,10 @@ module _ (h : Heap) (good : Good h) where
       nowhere e =
           let gone : place-of (shows s) (vectors-of h .moved) ≡ none =
           ap (λ (p : Packing Value). place-of (shows s) (p .moved)) (sym packed-all)
-          ∙ packing.empty-nowhere (h .elements) shows (good .vectors) inside (shows s) (capacity h) e
+          ∙ packing.empty-nowhere (h .elements) shows (good .apart-all) inside (shows s) (capacity h) e
           in
           ap (λ (o : Option ℕ). elim o as (λ o. Block) [ none ↦ block 0 (shows s .size) | some j ↦ block j (shows s .size) ]) gone
-          ∙ (λ i. block (sym (at-start (eqb (shows s .size) 0) (eqb (shows s .place) 0) (eq-eqb (shows s .size) 0 e) refl (both-right (leb (shows s .place + shows s .size) (length (h .elements))) _ (good .cells s .vector-in))) i) (shows s .size))
+          ∙ (λ i. block (sym (at-start (eqb (shows s .size) 0) (eqb (shows s .place) 0) (eq-eqb (shows s .size) 0 e) refl (both-right (leb (shows s .place + shows s .size) (length (h .elements))) _ (good .lies s))) i) (shows s .size))
         where
           at-start : (u v : Bool) → u ≡ true → eqb (shows s .place) 0 ≡ v → either (not u) v ≡ true → shows s .place ≡ 0
           at-start true true p q r = eqb-true (shows s .place) 0 q
@@ -273,12 +272,12 @@ module _ (h : Heap) (good : Good h) where
       next : (words′ elems′ table′ : List ℕ) (r : ℕ) → ElementsTurned words elems old table at s words′ elems′ table′ r → Going n room (suc s) r words′ elems′ table′
       next words′ elems′ table′ r (no-vector z e1 e2 e3 e4) =
           let empty : shows s .size ≡ 0 = ap (λ (x : Block). x .size) (sym size-is) ∙ z in
-          let p = packing.packed-empty (h .elements) shows (good .vectors) inside s empty in
+          let p = packing.packed-empty (h .elements) shows (good .apart-all) inside s empty in
           record {
             words-are = e1 ∙ g .words-are ∙ ap (λ (cs : List Cell). words-of n (with-cells h cs)) (changed-same f s (h .cells) (plain undefined) below (empty-same empty));
             long = e4 ∙ g .long ∙ ap (λ (x : Packing Value). length (x .room)) (sym p);
             elems-are = e2 ∙ g .elems-are ∙ (λ i. value-list (sym p i .room) ++ drop (3 * sym e4 i) (filled (3 * room) (value-list (h .elements))));
-            listed = subst (λ (x : Packing Value). packing.Tabled (h .elements) shows (good .vectors) inside x table′) (sym p) (subst (packing.Tabled (h .elements) shows (good .vectors) inside (packed s)) (sym e3) (g .listed));
+            listed = subst (λ (x : Packing Value). packing.Tabled (h .elements) shows (good .apart-all) inside x table′) (sym p) (subst (packing.Tabled (h .elements) shows (good .apart-all) inside (packed s)) (sym e3) (g .listed));
             table-long = ap length e3 ∙ g .table-long;
           }
       next words′ elems′ table′ r (vector-goes gone held m w q) =
@@ -298,9 +297,9 @@ module _ (h : Heap) (good : Good h) where
           at-shows : ElementsMoved elems old table at (shows s .place) (shows s .size) elems′ table′ gone
           at-shows = subst (λ (x : Block). ElementsMoved elems old table at (x .place) (x .size) elems′ table′ gone) size-is m
 
-          st : packing.Stepped (h .elements) shows (good .vectors) inside s at table (gone .to) (gone .at) table′
+          st : packing.Stepped (h .elements) shows (good .apart-all) inside s at table (gone .to) (gone .at) table′
           st =
-              packing.step (h .elements) shows (good .vectors) inside s at table (gone .to) (gone .at) table′ (g .long) (g .listed) holds
+              packing.step (h .elements) shows (good .apart-all) inside s at table (gone .to) (gone .at) table′ (g .long) (g .listed) holds
               (omega (arith, holds, inside s, b .within, b .most, g .table-long)) (at-shows .to) (at-shows .end) (at-shows .table-is)
 
           kept : (t : Bool) → length (choose t (set table (shows s .place) (at + 1)) table) ≡ 16384

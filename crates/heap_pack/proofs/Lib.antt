@@ -7,3 +7,4 @@ pub mod TextLaws
 pub mod TextEnds
 pub mod ElementLaws
 pub mod ElementEnds
+pub mod BothLaws

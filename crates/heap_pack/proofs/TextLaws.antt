@@ -18,14 +18,13 @@ use Rattle.rules.specs.Heap.{Heap, capacity, cell-at, part-of, with-cell}
 use Rattle.rules.specs.Layout.{words-of, filled, value-words, layout-rules}
 use Rattle.rules.specs.Collect.{Moved, Packing, Packed, place-of, pack-block, moved-block, pack-cell, pack-cells, collect-rules}
 use Rattle.rules.specs.Sound.{text-block, vector-block, lies-in, sound-rules}
-use Rattle.rules.proofs.Good.{Good, apart}
 use Rattle.rules.proofs.LentLaws.{words-length, filled-length}
 use Rattle.leaf_cells.specs.Cells.{loaded, stored-cell}
 use Rattle.leaf_cells.proofs.CallLaws.{load-on}
 use Rattle.leaf_cells.proofs.HeapLaws.{stored-cell-is}
 use Rattle.heap_pack.specs.declared.Gone.{Gone}
 use Rattle.heap_pack.specs.Moves.{placed, Written, TextMoved, TextReady, TextTurned, no-text, text-goes}
-use Rattle.heap_pack.specs.Passes.{none-packed, texts-of, text-placed, with-cells, changed, TextsBegin, TextsEnd}
+use Rattle.heap_pack.specs.Passes.{none-packed, texts-of, text-placed, with-cells, changed, Texts-apart, TextsBegin, TextsEnd}
 use Rattle.heap_pack.proofs.Packings as packing
 
 -- ---- the rules' packing of all cells, as packing slot after slot
@@ -71,16 +70,16 @@ changed-length f zero cs = refl
 changed-length f (suc s) [] = refl
 changed-length f (suc s) (x ∷ cs) = ap suc (changed-length f s cs)
 
-module _ (h : Heap) (good : Good h) where
+module _ (h : Heap) (good : Texts-apart h) where
   abbrev shows : ℕ → Block
   shows t = text-block (cell-at h t)
 
   pub inside : (s : ℕ) → shows s .place + shows s .size ≤ length (h .bytes)
   unfolding sound-rules
-  inside s = leb-true _ _ (both-left (leb (shows s .place + shows s .size) (length (h .bytes))) _ (good .cells s .text-in))
+  inside s = leb-true _ _ (both-left (leb (shows s .place + shows s .size) (length (h .bytes))) _ (good .lies s))
 
   abbrev packed : ℕ → Packing ℕ
-  packed s = packing.packed (h .bytes) shows (good .texts) inside s
+  packed s = packing.packed (h .bytes) shows (good .apart-all) inside s
 
   packed-is : (s : ℕ) → s ≤ capacity h → packed s ≡ pack-cells h (take s (h .cells)) none-packed .texts
   unfolding packing.packed collect-rules
@@ -102,7 +101,7 @@ module _ (h : Heap) (good : Good h) where
       omega (
         arith,
         ap (λ (p : Packing ℕ). length (p .room)) packed-all,
-        packing.room-small (h .bytes) shows (good .texts) inside (capacity h),
+        packing.room-small (h .bytes) shows (good .apart-all) inside (capacity h),
       )
 
   -- ---- how far the pass has come
@@ -114,7 +113,7 @@ module _ (h : Heap) (good : Good h) where
     pub words-are : words ≡ words-of n (with-cells h (changed f s (h .cells)))
     pub long : at ≡ length (packed s .room)
     pub bytes-are : bytes ≡ packed s .room ++ drop at (filled room (h .bytes))
-    pub listed : packing.Tabled (h .bytes) shows (good .texts) inside (packed s) table
+    pub listed : packing.Tabled (h .bytes) shows (good .apart-all) inside (packed s) table
     pub table-long : length table ≡ 65536
 
   module _ (n room : ℕ) (words₀ bytes₀ old table₀ : List ℕ) (b : TextsBegin n h room words₀ bytes₀ old table₀) where
@@ -125,7 +124,7 @@ module _ (h : Heap) (good : Good h) where
           words-are = b .words-are;
           long = refl;
           bytes-are = b .bytes-are;
-          listed = packing.tabled-none (h .bytes) shows (good .texts) inside table₀ (b .table-clear);
+          listed = packing.tabled-none (h .bytes) shows (good .apart-all) inside table₀ (b .table-clear);
           table-long = b .table-long;
         }
 
@@ -147,7 +146,7 @@ module _ (h : Heap) (good : Good h) where
             length-append (packed s .room) (drop at (filled room (h .bytes))),
             length-drop at (filled room (h .bytes)),
             filled-length room (h .bytes) (b .within),
-            packing.room-small (h .bytes) shows (good .texts) inside s,
+            packing.room-small (h .bytes) shows (good .apart-all) inside s,
             b .within,
             g .long,
           )
@@ -167,9 +166,9 @@ module _ (h : Heap) (good : Good h) where
               record {
                 inside = omega (arith, inside s, b .old-long);
                 listed = omega (arith, inside s, b .within, b .most, g .table-long);
-                fits = λ z. omega (arith, packing.table-fits (h .bytes) shows (good .texts) inside s table (g .listed) held z, g .long, b .within, room-long);
-                begins = omega (arith, packing.room-small (h .bytes) shows (good .texts) inside s, g .long, b .within, room-long);
-                small = omega (arith, packing.room-small (h .bytes) shows (good .texts) inside s, g .long, b .within, b .most);
+                fits = λ z. omega (arith, packing.table-fits (h .bytes) shows (good .apart-all) inside s table (g .listed) held z, g .long, b .within, room-long);
+                begins = omega (arith, packing.room-small (h .bytes) shows (good .apart-all) inside s, g .long, b .within, room-long);
+                small = omega (arith, packing.room-small (h .bytes) shows (good .apart-all) inside s, g .long, b .within, b .most);
               }
 
       -- the cell after its turn is the cell with its text where it went
@@ -179,7 +178,7 @@ module _ (h : Heap) (good : Good h) where
           let last : place-of (shows s) (texts-of h .moved) ≡ some k =
           ap (λ (p : Packing ℕ). place-of (shows s) (p .moved)) (sym packed-all)
           ∙ ap (λ (m : ℕ). place-of (shows s) (packed m .moved)) (sym up)
-          ∙ packing.stays-to (h .bytes) shows (good .texts) inside (shows s) (suc s) (capacity h - suc s) k e
+          ∙ packing.stays-to (h .bytes) shows (good .apart-all) inside (shows s) (suc s) (capacity h - suc s) k e
           in
           ap (λ (o : Option ℕ). elim o as (λ o. Block) [ none ↦ block 0 (shows s .size) | some j ↦ block j (shows s .size) ]) last
         where
@@ -192,10 +191,10 @@ module _ (h : Heap) (good : Good h) where
       nowhere e =
           let gone : place-of (shows s) (texts-of h .moved) ≡ none =
           ap (λ (p : Packing ℕ). place-of (shows s) (p .moved)) (sym packed-all)
-          ∙ packing.empty-nowhere (h .bytes) shows (good .texts) inside (shows s) (capacity h) e
+          ∙ packing.empty-nowhere (h .bytes) shows (good .apart-all) inside (shows s) (capacity h) e
           in
           ap (λ (o : Option ℕ). elim o as (λ o. Block) [ none ↦ block 0 (shows s .size) | some j ↦ block j (shows s .size) ]) gone
-          ∙ (λ i. block (sym (at-start (eqb (shows s .size) 0) (eqb (shows s .place) 0) (eq-eqb (shows s .size) 0 e) refl (both-right (leb (shows s .place + shows s .size) (length (h .bytes))) _ (good .cells s .text-in))) i) (shows s .size))
+          ∙ (λ i. block (sym (at-start (eqb (shows s .size) 0) (eqb (shows s .place) 0) (eq-eqb (shows s .size) 0 e) refl (both-right (leb (shows s .place + shows s .size) (length (h .bytes))) _ (good .lies s))) i) (shows s .size))
         where
           at-start : (u v : Bool) → u ≡ true → eqb (shows s .place) 0 ≡ v → either (not u) v ≡ true → shows s .place ≡ 0
           at-start true true p q r = eqb-true (shows s .place) 0 q
@@ -258,12 +257,12 @@ module _ (h : Heap) (good : Good h) where
       next : (words′ bytes′ table′ : List ℕ) (r : ℕ) → TextTurned words bytes old table at s words′ bytes′ table′ r → Going n room (suc s) r words′ bytes′ table′
       next words′ bytes′ table′ r (no-text z e1 e2 e3 e4) =
           let empty : shows s .size ≡ 0 = ap (λ (x : Block). x .size) (sym size-is) ∙ z in
-          let p = packing.packed-empty (h .bytes) shows (good .texts) inside s empty in
+          let p = packing.packed-empty (h .bytes) shows (good .apart-all) inside s empty in
           record {
             words-are = e1 ∙ g .words-are ∙ ap (λ (cs : List Cell). words-of n (with-cells h cs)) (changed-same f s (h .cells) (plain undefined) below (empty-same empty));
             long = e4 ∙ g .long ∙ ap (λ (x : Packing ℕ). length (x .room)) (sym p);
             bytes-are = e2 ∙ g .bytes-are ∙ (λ i. sym p i .room ++ drop (sym e4 i) (filled room (h .bytes)));
-            listed = subst (λ (x : Packing ℕ). packing.Tabled (h .bytes) shows (good .texts) inside x table′) (sym p) (subst (packing.Tabled (h .bytes) shows (good .texts) inside (packed s)) (sym e3) (g .listed));
+            listed = subst (λ (x : Packing ℕ). packing.Tabled (h .bytes) shows (good .apart-all) inside x table′) (sym p) (subst (packing.Tabled (h .bytes) shows (good .apart-all) inside (packed s)) (sym e3) (g .listed));
             table-long = ap length e3 ∙ g .table-long;
           }
       next words′ bytes′ table′ r (text-goes gone held m w q) =
@@ -283,9 +282,9 @@ module _ (h : Heap) (good : Good h) where
           at-shows : TextMoved bytes old table at (shows s .place) (shows s .size) bytes′ table′ gone
           at-shows = subst (λ (x : Block). TextMoved bytes old table at (x .place) (x .size) bytes′ table′ gone) size-is m
 
-          st : packing.Stepped (h .bytes) shows (good .texts) inside s at table (gone .to) (gone .at) table′
+          st : packing.Stepped (h .bytes) shows (good .apart-all) inside s at table (gone .to) (gone .at) table′
           st =
-              packing.step (h .bytes) shows (good .texts) inside s at table (gone .to) (gone .at) table′ (g .long) (g .listed) holds
+              packing.step (h .bytes) shows (good .apart-all) inside s at table (gone .to) (gone .at) table′ (g .long) (g .listed) holds
               (omega (arith, holds, inside s, b .within, b .most, g .table-long)) (at-shows .to) (at-shows .end) (at-shows .table-is)
 
           kept : (t : Bool) → length (choose t (set table (shows s .place) (at + 1)) table) ≡ 65536

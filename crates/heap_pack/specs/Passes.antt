@@ -1,14 +1,16 @@
 -- The two passes of packing, texts and then elements, and how far each has come. Assumes nothing.
 use mathlib.Core.Path.{_≡_}
+use mathlib.Core.Bool.{true}
 use mathlib.Core.List.{List, [], _∷_, _++_, map}
 use Prim.Native.Nat.{ℕ, _*_, _≤_}
 use lib.ListN.{length, getD, take, drop}
 use Rattle.laws.specs.Basics.{join}
 use Rattle.rules.specs.Cells.{Value, Block, block, Cell, plain, pair, symbol, string, vector}
-use Rattle.rules.specs.Heap.{Heap, capacity}
-use Rattle.rules.specs.Layout.{words-of, filled, value-words}
-use Rattle.rules.specs.Collect.{Moved, Packing, Packed, pack-cells, moved-block}
-use Rattle.rules.proofs.Good.{Good}
+use Rattle.rules.specs.Heap.{Heap, capacity, cell-at}
+use Rattle.rules.specs.Layout.{Rooms, words-of, filled, value-words}
+use Rattle.rules.specs.Collect.{Moved, Packing, Packed, pack-cells, moved-block, pack}
+use Rattle.rules.specs.Sound.{text-block, vector-block, lies-in}
+use Rattle.rules.proofs.Good.{apart}
 
 abbrev pub none-packed : Packed
 none-packed = record { texts = record { room = []; moved = [] }; vectors = record { room = []; moved = [] } }
@@ -75,10 +77,19 @@ with-vectors h =
       elements = vectors-of h .room;
     }
 
+-- the blocks of a heap: in the room in use, and the same or disjoint
+pub record Texts-apart (h : Heap) : Type 0 where
+  pub apart-all : (s t : ℕ) → apart (text-block (cell-at h s)) (text-block (cell-at h t)) ≡ true
+  pub lies : (s : ℕ) → lies-in (length (h .bytes)) (text-block (cell-at h s)) ≡ true
+
+pub record Vectors-apart (h : Heap) : Type 0 where
+  pub apart-all : (s t : ℕ) → apart (vector-block (cell-at h s)) (vector-block (cell-at h t)) ≡ true
+  pub lies : (s : ℕ) → lies-in (length (h .elements)) (vector-block (cell-at h s)) ≡ true
+
 -- ---- the pass over the texts
 
 pub record TextsBegin (n : ℕ) (h : Heap) (room : ℕ) (words bytes old table : List ℕ) : Type 0 where
-  pub good : Good h
+  pub good : Texts-apart h
   pub rows : capacity h ≤ n
   pub few : n ≤ 4096
   pub within : length (h .bytes) ≤ room
@@ -97,7 +108,7 @@ pub record TextsEnd (n : ℕ) (h : Heap) (room : ℕ) (words bytes : List ℕ) (
 
 -- the lists of a heap, and room aside
 pub record TextsLent (n : ℕ) (h : Heap) (room : ℕ) (words bytes old table : List ℕ) : Type 0 where
-  pub good : Good h
+  pub good : Texts-apart h
   pub rows : capacity h ≤ n
   pub few : n ≤ 4096
   pub within : length (h .bytes) ≤ room
@@ -118,7 +129,7 @@ abbrev pub value-list : List Value → List ℕ
 value-list vs = join value-words vs
 
 pub record ElementsBegin (n : ℕ) (h : Heap) (room : ℕ) (words elems old table : List ℕ) : Type 0 where
-  pub good : Good h
+  pub good : Vectors-apart h
   pub rows : capacity h ≤ n
   pub few : n ≤ 4096
   pub within : length (h .elements) ≤ room
@@ -136,7 +147,7 @@ pub record ElementsEnd (n : ℕ) (h : Heap) (room : ℕ) (words elems : List ℕ
   pub used : r ≡ length (vectors-of h .room)
 
 pub record ElementsLent (n : ℕ) (h : Heap) (room : ℕ) (words elems old table : List ℕ) : Type 0 where
-  pub good : Good h
+  pub good : Vectors-apart h
   pub rows : capacity h ≤ n
   pub few : n ≤ 4096
   pub within : length (h .elements) ≤ room
@@ -150,3 +161,34 @@ pub record ElementsLent (n : ℕ) (h : Heap) (room : ℕ) (words elems old table
 pub record ElementsPacked (n : ℕ) (h : Heap) (room : ℕ) (words elems : List ℕ) : Type 0 where
   pub words-are : words ≡ words-of n (with-vectors h)
   pub elems-are : elems ≡ filled (3 * room) (value-list (with-vectors h .elements))
+
+-- ---- both
+
+pub record TextsGiven (n : ℕ) (h : Heap) (room : ℕ) (words bytes : List ℕ) : Type 0 where
+  pub good : Texts-apart h
+  pub rows : capacity h ≤ n
+  pub few : n ≤ 4096
+  pub within : length (h .bytes) ≤ room
+  pub most : room ≤ 65536
+  pub words-are : words ≡ words-of n h
+  pub bytes-are : bytes ≡ filled room (h .bytes)
+
+pub record ElementsGiven (n : ℕ) (h : Heap) (room : ℕ) (words elems : List ℕ) : Type 0 where
+  pub good : Vectors-apart h
+  pub rows : capacity h ≤ n
+  pub few : n ≤ 4096
+  pub within : length (h .elements) ≤ room
+  pub most : room ≤ 16384
+  pub words-are : words ≡ words-of n h
+  pub elems-are : elems ≡ filled (3 * room) (value-list (h .elements))
+
+-- the lists of a heap whose blocks are the same or disjoint
+pub record PackGiven (n : ℕ) (h : Heap) (r : Rooms) (words bytes elems : List ℕ) : Type 0 where
+  pub texts : TextsGiven n h (r .bytes) words bytes
+  pub vectors : ElementsGiven n h (r .elements) words elems
+
+-- those of the rules' packed heap
+pub record AllPacked (n : ℕ) (h : Heap) (r : Rooms) (words bytes elems : List ℕ) : Type 0 where
+  pub words-are : words ≡ words-of n (pack h)
+  pub bytes-are : bytes ≡ filled (r .bytes) (pack h .bytes)
+  pub elems-are : elems ≡ filled (3 * r .elements) (value-list (pack h .elements))

@@ -9,11 +9,12 @@ ghost use Prim.Native.Nat.{ℕ, _+_, _*_, _/_, _≤_, _<_};
 ghost use lib.ListN.{length, getD};
 ghost use Rattle.rules.specs.Cells.{block};
 ghost use Rattle.rules.specs.Heap.{Heap};
+ghost use Rattle.rules.specs.Layout.{Rooms};
 ghost use Rattle.rules.specs.Sound.{text-block, vector-block};
 ghost use Rattle.leaf_cells.specs.Cells.{cell-of};
 ghost use Rattle.leaf_cells.specs.Words.{stored};
 ghost use Rattle.heap_pack.specs.Moves.{shown, placed, Written, TextMoved, ElementsMoved, TextReady, TextTurned, ElementsReady, ElementsTurned};
-ghost use Rattle.heap_pack.specs.Passes.{TextsBegin, TextsEnd, TextsLent, TextsPacked, ElementsBegin, ElementsEnd, ElementsLent, ElementsPacked};
+ghost use Rattle.heap_pack.specs.Passes.{TextsBegin, TextsEnd, TextsLent, TextsPacked, ElementsBegin, ElementsEnd, ElementsLent, ElementsPacked, TextsGiven, ElementsGiven, PackGiven, AllPacked};
 
 // A block: its place and its length.
 pub struct Span {
@@ -234,6 +235,7 @@ fn element_turns(words: &mut [u64], elems: &mut [u64], old: &[u64], table: &mut 
     at
 }
 
+// The elements packed, with an arena aside and a table that are lent clear.
 fn pack_elements_in(words: &mut [u64], elems: &mut [u64], old: &mut [u64], table: &mut [u32])
     requires { ⌜ ((n : ℕ) × (h : Heap) × (room : ℕ) × ElementsLent n h room (now words) (now elems) (now old) (now table)) ⌝ }
     ensures { λ _. ⌜ ((n : ℕ) (h : Heap) (room : ℕ) → ElementsLent n h room (now (words .entry)) (now (elems .entry)) (now (old .entry)) (now (table .entry)) → ElementsPacked n h room (now (words .exit)) (now (elems .exit))) ⌝ }
@@ -244,4 +246,33 @@ fn pack_elements_in(words: &mut [u64], elems: &mut [u64], old: &mut [u64], table
     let from = 3 * end;
     leaf_clear::clear_words(&mut elems[from..used]);
     words[5] = end as u64;
+}
+
+// The texts packed.
+fn pack_texts(words: &mut [u64], bytes: &mut [u8])
+    requires { ⌜ ((n : ℕ) × (h : Heap) × (room : ℕ) × TextsGiven n h room (now words) (now bytes)) ⌝ }
+    ensures { λ _. ⌜ ((n : ℕ) (h : Heap) (room : ℕ) → TextsGiven n h room (now (words .entry)) (now (bytes .entry)) → TextsPacked n h room (now (words .exit)) (now (bytes .exit))) ⌝ }
+{
+    let mut old = [0u8; 65536];
+    let mut table = [0u32; 65536];
+    pack_texts_in(words, bytes, &mut old, &mut table);
+}
+
+// The elements packed.
+fn pack_vectors(words: &mut [u64], elems: &mut [u64])
+    requires { ⌜ ((n : ℕ) × (h : Heap) × (room : ℕ) × ElementsGiven n h room (now words) (now elems)) ⌝ }
+    ensures { λ _. ⌜ ((n : ℕ) (h : Heap) (room : ℕ) → ElementsGiven n h room (now (words .entry)) (now (elems .entry)) → ElementsPacked n h room (now (words .exit)) (now (elems .exit))) ⌝ }
+{
+    let mut old = [0u64; 49152];
+    let mut table = [0u32; 16384];
+    pack_elements_in(words, elems, &mut old, &mut table);
+}
+
+// Both arenas packed.
+pub fn pack(words: &mut [u64], bytes: &mut [u8], elems: &mut [u64])
+    requires { ⌜ ((n : ℕ) × (h : Heap) × (r : Rooms) × PackGiven n h r (now words) (now bytes) (now elems)) ⌝ }
+    ensures { λ _. ⌜ ((n : ℕ) (h : Heap) (r : Rooms) → PackGiven n h r (now (words .entry)) (now (bytes .entry)) (now (elems .entry)) → AllPacked n h r (now (words .exit)) (now (bytes .exit)) (now (elems .exit))) ⌝ }
+{
+    pack_texts(words, bytes);
+    pack_vectors(words, elems);
 }

@@ -6,111 +6,82 @@ use Rattle.heap_pack.proofs.MoveLaws.{elements-known, elements-new, par
 use borrow.Author.Needs.{needs}
 use Rattle.heap_pack.proofs.move_elements.Statement.{statement}
 use Rattle.heap_pack.proofs.move_elements.Tie as tie
-use Rattle.heap_pack.proofs.move_elements.Reads as reads
-use Rattle.heap_pack.proofs.move_elements.Lts as lts
-use Rattle.heap_pack.proofs.write_words.Reads as write-words-reads
 
--- src/lib.rt:134:17
 mul-known : tie.Need-mul-known
 mul-known c = search needs
 
--- src/lib.rt:134:17
 slice-read-known : tie.Need-slice-read-known
 slice-read-known c = search needs
 
--- src/lib.rt:134:17
 cast-known : tie.Need-cast-known
 cast-known c = record { fits = omega (arith, c .before .slice-known2 .given (c .before .before .before .before .args .place), c .slice-known3 .given (c .before .before .before .before .args .place)) }
 
--- src/lib.rt:136:27
 sub-t15 : tie.Need-sub-t15
 sub-t15 c = search needs
 
--- src/lib.rt:136:9
 returns : tie.Need-returns
 returns c = elements-known (c .before .before .before .before .before .args .elems .now) (c .before .before .before .before .before .args .old .now) (c .before .before .before .before .before .args .table .now) (c .before .before .before .before .before .args .at) (c .before .before .before .before .before .args .place) (c .before .before .before .before .before .args .size) (c .if1 .taken)
 
--- src/lib.rt:138:17
 mul-start : tie.Need-mul-start
 mul-start c = search needs
 
--- src/lib.rt:139:23
 mul-end : tie.Need-mul-end
 mul-end c = search needs
 
--- src/lib.rt:139:15
 add-end : tie.Need-add-end
 add-end c = search needs
 
--- src/lib.rt:140:16
 mul-from : tie.Need-mul-from
 mul-from c = search needs
 
--- src/lib.rt:141:17
 mul-write-words : tie.Need-mul-write-words
 mul-write-words c = search needs
 
--- src/lib.rt:141:17
 sub-write-words : tie.Need-sub-write-words
 sub-write-words c = search needs
 
--- src/lib.rt:141:17
 part-write-words-start : tie.Need-part-write-words-start
 part-write-words-start c = search needs
 
--- src/lib.rt:141:17
 part-write-words-end : tie.Need-part-write-words-end
 part-write-words-end c = search needs
 
--- src/lib.rt:141:40
 mul-write-words-2 : tie.Need-mul-write-words-2
 mul-write-words-2 c = search needs
 
--- src/lib.rt:141:40
 sub-write-words-2 : tie.Need-sub-write-words-2
 sub-write-words-2 c = search needs
 
--- src/lib.rt:141:40
 part-write-words-start-2 : tie.Need-part-write-words-start-2
 part-write-words-start-2 c = search needs
 
--- src/lib.rt:141:40
 part-write-words-end-2 : tie.Need-part-write-words-end-2
 part-write-words-end-2 c = search needs
 
--- src/lib.rt:141:5
 write-words-requires : tie.Need-write-words-requires
 write-words-requires c κs = part-fits (c .before .before .before .before .before .before .before .args .elems .now) (c .before .before .before .before .before .before .before .args .old .now) (3 * c .before .before .before .before .before .before .before .args .at) (3 * c .before .before .before .before .before .before .before .args .place) (3 * c .before .before .before .before .before .before .before .args .size) (omega (arith, c .before .before .before .before .before .before .before .pre .inside)) (omega (arith, c .before .before .before .before .before .before .before .pre .fits (omega (arith, c .before .before .if1 .left))))
 
--- src/lib.rt:142:21
 add-table : tie.Need-add-table
 add-table c = search needs
 
--- src/lib.rt:142:20
 cast-table : tie.Need-cast-table
 cast-table c = search needs
 
--- src/lib.rt:142:5
 mul-table : tie.Need-mul-table
 mul-table c = search needs
 
--- src/lib.rt:142:5
 slice-write-table : tie.Need-slice-write-table
 slice-write-table c = search needs
 
--- src/lib.rt:145:13
 add-t18 : tie.Need-add-t18
 add-t18 c = search needs
 
--- src/lib.rt:123:1
 same-length : tie.Need-same-length
 same-length c = search needs
 
--- src/lib.rt:123:1
 same-length-2 : tie.Need-same-length-2
 same-length-2 c = search needs
 
--- src/lib.rt:123:1
 returns-2 : tie.Need-returns-2
 returns-2 c = elements-new (c .before .before .before .before .before .before .before .before .before .before .args .elems .now) (c .before .before .before .before .before .before .before .before .before .before .args .old .now) (c .before .before .before .before .before .before .before .before .before .before .args .table .now) (c .before .before .before .before .before .before .before .before .before .before .args .at) (c .before .before .before .before .before .before .before .before .before .before .args .place) (c .before .before .before .before .before .before .before .before .before .before .args .size) _ (omega (arith, c .before .before .before .before .before .if1 .left)) (omega (arith, c .before .before .before .before .before .before .before .before .before .before .pre .inside)) (omega (arith, c .before .before .before .before .before .before .before .before .before .before .pre .fits (omega (arith, c .before .before .before .before .before .if1 .left)))) (c .before .before .write-words .ensures)
 

@@ -5,91 +5,67 @@ use Rattle.heap_pack.proofs.MoveLaws.{text-known, text-new, part-fits}
 use borrow.Author.Needs.{needs}
 use Rattle.heap_pack.proofs.move_text.Statement.{statement}
 use Rattle.heap_pack.proofs.move_text.Tie as tie
-use Rattle.heap_pack.proofs.move_text.Reads as reads
-use Rattle.heap_pack.proofs.move_text.Lts as lts
-use Rattle.leaf_cells.proofs.write_bytes.Reads as write-bytes-reads
 
--- src/lib.rt:109:17
 mul-known : tie.Need-mul-known
 mul-known c = search needs
 
--- src/lib.rt:109:17
 slice-read-known : tie.Need-slice-read-known
 slice-read-known c = search needs
 
--- src/lib.rt:109:17
 cast-known : tie.Need-cast-known
 cast-known c = record { fits = omega (arith, c .before .slice-known2 .given (c .before .before .before .before .args .place), c .slice-known3 .given (c .before .before .before .before .args .place)) }
 
--- src/lib.rt:111:27
 sub-t13 : tie.Need-sub-t13
 sub-t13 c = search needs
 
--- src/lib.rt:111:9
 returns : tie.Need-returns
 returns c = text-known (c .before .before .before .before .before .args .bytes .now) (c .before .before .before .before .before .args .old .now) (c .before .before .before .before .before .args .table .now) (c .before .before .before .before .before .args .at) (c .before .before .before .before .before .args .place) (c .before .before .before .before .before .args .size) (c .if1 .taken)
 
--- src/lib.rt:113:15
 add-end : tie.Need-add-end
 add-end c = search needs
 
--- src/lib.rt:114:29
 sub-write-bytes : tie.Need-sub-write-bytes
 sub-write-bytes c = search needs
 
--- src/lib.rt:114:29
 part-write-bytes-start : tie.Need-part-write-bytes-start
 part-write-bytes-start c = search needs
 
--- src/lib.rt:114:29
 part-write-bytes-end : tie.Need-part-write-bytes-end
 part-write-bytes-end c = search needs
 
--- src/lib.rt:114:50
 sub-write-bytes-2 : tie.Need-sub-write-bytes-2
 sub-write-bytes-2 c = search needs
 
--- src/lib.rt:114:50
 part-write-bytes-start-2 : tie.Need-part-write-bytes-start-2
 part-write-bytes-start-2 c = search needs
 
--- src/lib.rt:114:50
 part-write-bytes-end-2 : tie.Need-part-write-bytes-end-2
 part-write-bytes-end-2 c = search needs
 
--- src/lib.rt:114:5
 write-bytes-requires : tie.Need-write-bytes-requires
 write-bytes-requires c κs = part-fits (c .before .before .before .before .before .before .before .args .bytes .now) (c .before .before .before .before .before .before .before .args .old .now) (c .before .before .before .before .before .before .before .args .at) (c .before .before .before .before .before .before .before .args .place) (c .before .before .before .before .before .before .before .args .size) (c .before .before .before .before .before .before .before .pre .inside) (c .before .before .before .before .before .before .before .pre .fits (omega (arith, c .before .before .if1 .left)))
 
--- src/lib.rt:115:21
 add-table : tie.Need-add-table
 add-table c = search needs
 
--- src/lib.rt:115:20
 cast-table : tie.Need-cast-table
 cast-table c = search needs
 
--- src/lib.rt:115:5
 mul-table : tie.Need-mul-table
 mul-table c = search needs
 
--- src/lib.rt:115:5
 slice-write-table : tie.Need-slice-write-table
 slice-write-table c = search needs
 
--- src/lib.rt:118:13
 add-t9 : tie.Need-add-t9
 add-t9 c = search needs
 
--- src/lib.rt:98:1
 same-length : tie.Need-same-length
 same-length c = search needs
 
--- src/lib.rt:98:1
 same-length-2 : tie.Need-same-length-2
 same-length-2 c = search needs
 
--- src/lib.rt:98:1
 returns-2 : tie.Need-returns-2
 returns-2 c = text-new (c .before .before .before .before .before .before .before .before .before .before .args .bytes .now) (c .before .before .before .before .before .before .before .before .before .before .args .old .now) (c .before .before .before .before .before .before .before .before .before .before .args .table .now) (c .before .before .before .before .before .before .before .before .before .before .args .at) (c .before .before .before .before .before .before .before .before .before .before .args .place) (c .before .before .before .before .before .before .before .before .before .before .args .size) _ (omega (arith, c .before .before .before .before .before .if1 .left)) (c .before .before .before .before .before .before .before .before .before .before .pre .inside) (c .before .before .before .before .before .before .before .before .before .before .pre .fits (omega (arith, c .before .before .before .before .before .if1 .left))) (c .before .before .write-bytes .ensures)
 

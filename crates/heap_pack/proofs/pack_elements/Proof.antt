@@ -3,55 +3,37 @@ use Rattle.heap_pack.proofs.TurnLaws.{elements-none, elements-ready, el
 use borrow.Author.Needs.{needs}
 use Rattle.heap_pack.proofs.pack_elements.Statement.{statement}
 use Rattle.heap_pack.proofs.pack_elements.Tie as tie
-use Rattle.heap_pack.proofs.pack_elements.Reads as reads
-use Rattle.heap_pack.proofs.pack_elements.Lts as lts
-use Rattle.heap_pack.proofs.move_elements.Reads as move-elements-reads
-use Rattle.heap_pack.proofs.vector_block.Reads as vector-block-reads
-use Rattle.heap_pack.proofs.with_place.Reads as with-place-reads
-use Rattle.leaf_cells.proofs.load.Reads as load-reads
-use Rattle.leaf_cells.proofs.store.Reads as store-reads
 
--- src/lib.rt:183:9
 load-requires : tie.Need-load-requires
 load-requires c κs = search needs
 
--- src/lib.rt:184:9
 vector-block-requires : tie.Need-vector-block-requires
 vector-block-requires c κs = search needs
 
--- src/lib.rt:186:9
 same-length : tie.Need-same-length
 same-length c = search needs
 
--- src/lib.rt:186:9
 returns : tie.Need-returns
 returns c = elements-none (c .before .before .before .before .before .before .before .before .before .args .words .now) (c .before .before .before .before .before .before .before .before .before .args .old .now) (c .before .before .before .before .before .before .before .before .before .args .table .now) (c .before .before .before .before .before .before .before .before .before .args .at) (c .before .before .before .before .before .before .before .before .before .args .s) (c .before .before .before .load .result) (c .before .before .vector-block .result) (c .before .before .before .load .ensures) (c .before .before .before .before .before .before .before .before .before .args .elems .now) (c .before .before .vector-block .ensures) (c .if1 .taken)
 
--- src/lib.rt:188:9
 move-elements-requires : tie.Need-move-elements-requires
 move-elements-requires c κs = elements-ready (c .before .before .before .before .before .before .before .before .before .before .before .args .words .now) (c .before .before .before .before .before .before .before .before .before .before .before .args .old .now) (c .before .before .before .before .before .before .before .before .before .before .before .args .table .now) (c .before .before .before .before .before .before .before .before .before .before .before .args .at) (c .before .before .before .before .before .before .before .before .before .before .before .args .s) (c .before .before .before .before .before .load .result) (c .before .before .before .before .vector-block .result) (c .before .before .before .before .before .load .ensures) (c .before .before .before .before .before .before .before .before .before .before .before .args .elems .now) (c .before .before .before .before .vector-block .ensures) (c .before .before .if1 .left) (c .before .before .before .before .before .before .before .before .before .before .before .pre)
 
--- src/lib.rt:189:33
 with-place-requires : tie.Need-with-place-requires
 with-place-requires c κs = search needs
 
--- src/lib.rt:189:5
 store-requires : tie.Need-store-requires
 store-requires c κs = search needs
 
--- src/lib.rt:172:1
 same-length-2 : tie.Need-same-length-2
 same-length-2 c = search needs
 
--- src/lib.rt:172:1
 same-length-3 : tie.Need-same-length-3
 same-length-3 c = search needs
 
--- src/lib.rt:172:1
 same-length-4 : tie.Need-same-length-4
 same-length-4 c = search needs
 
--- src/lib.rt:172:1
 returns-2 : tie.Need-returns-2
 returns-2 c = elements-gone (c .before .before .before .before .before .before .before .before .before .before .before .before .before .before .before .before .before .before .before .before .before .args .words .now) (c .before .before .before .before .before .before .before .before .before .before .before .before .before .before .before .before .before .before .before .before .before .args .old .now) (c .before .before .before .before .before .before .before .before .before .before .before .before .before .before .before .before .before .before .before .before .before .args .table .now) (c .before .before .before .before .before .before .before .before .before .before .before .before .before .before .before .before .before .before .before .before .before .args .at) (c .before .before .before .before .before .before .before .before .before .before .before .before .before .before .before .before .before .before .before .before .before .args .s) (c .before .before .before .before .before .before .before .before .before .before .before .before .before .before .before .load .result) (c .before .before .before .before .before .before .before .before .before .before .before .before .before .before .vector-block .result) (c .before .before .before .before .before .before .before .before .before .before .before .before .before .before .before .load .ensures) (c .before .before .before .before .before .before .before .before .before .before .before .before .before .before .before .before .before .before .before .before .before .args .elems .now) (c .before .before .before .before .before .before .before .before .before .before .before .before .before .before .vector-block .ensures) (c .before .before .before .before .before .before .before .before .before .before .before .before .if1 .left) (c .before .before .before .before .before .before .before .before .before .move-elements .result) _ _ _ (c .before .before .before .with-place .result) (c .before .before .store .result) (c .before .before .before .before .before .before .before .before .before .move-elements .ensures) (c .before .before .before .with-place .ensures) (c .before .before .store .ensures)
 

@@ -7,81 +7,58 @@ use Rattle.heap_pack.proofs.ElementEnds.{header-there, count-is, used-i
 use borrow.Author.Needs.{needs}
 use Rattle.heap_pack.proofs.pack_elements_in.Statement.{statement}
 use Rattle.heap_pack.proofs.pack_elements_in.Tie as tie
-use Rattle.heap_pack.proofs.pack_elements_in.Reads as reads
-use Rattle.heap_pack.proofs.pack_elements_in.Lts as lts
-use Rattle.heap_pack.proofs.element_turns.Reads as element-turns-reads
-use Rattle.heap_pack.proofs.write_words.Reads as write-words-reads
-use Rattle.leaf_clear.proofs.clear_words.Reads as clear-words-reads
 
--- src/lib.rt:241:20
 slice-read-used : tie.Need-slice-read-used
 slice-read-used c = omega (arith, header-there (c .before .before .before .before .before .pre .0) (c .before .before .before .before .before .pre .1) (c .before .before .before .before .before .pre .2) (c .before .before .before .before .before .args .words .now) (c .before .before .before .before .before .args .elems .now) (c .before .before .before .before .before .args .old .now) (c .before .before .before .before .before .args .table .now) (c .before .before .before .before .before .pre .3))
 
--- src/lib.rt:241:16
 mul-used : tie.Need-mul-used
 mul-used c = omega (arith, count-is (c .before .before .before .before .before .pre .0) (c .before .before .before .before .before .pre .1) (c .before .before .before .before .before .pre .2) (c .before .before .before .before .before .args .words .now) (c .before .before .before .before .before .args .elems .now) (c .before .before .before .before .before .args .old .now) (c .before .before .before .before .before .args .table .now) (c .before .before .before .before .before .pre .3), c .before .before .before .before .before .pre .3 .within, c .before .before .before .before .before .pre .3 .most)
 
--- src/lib.rt:242:25
 slice-reshare-prefix-write-words : tie.Need-slice-reshare-prefix-write-words
 slice-reshare-prefix-write-words c = (omega (arith, count-is (c .before .before .before .before .before .before .pre .0) (c .before .before .before .before .before .before .pre .1) (c .before .before .before .before .before .before .pre .2) (c .before .before .before .before .before .before .args .words .now) (c .before .before .before .before .before .before .args .elems .now) (c .before .before .before .before .before .before .args .old .now) (c .before .before .before .before .before .before .args .table .now) (c .before .before .before .before .before .before .pre .3), elems-long (c .before .before .before .before .before .before .pre .0) (c .before .before .before .before .before .before .pre .1) (c .before .before .before .before .before .before .pre .2) (c .before .before .before .before .before .before .args .words .now) (c .before .before .before .before .before .before .args .elems .now) (c .before .before .before .before .before .before .args .old .now) (c .before .before .before .before .before .before .args .table .now) (c .before .before .before .before .before .before .pre .3), c .before .before .before .before .before .before .pre .3 .within))
 
--- src/lib.rt:242:25
 slice-aggregate-write-words : tie.Need-slice-aggregate-write-words
 slice-aggregate-write-words c = sym (length-take-le _ (c .before .before .before .before .before .before .before .args .elems .now) (omega (arith, count-is (c .before .before .before .before .before .before .before .pre .0) (c .before .before .before .before .before .before .before .pre .1) (c .before .before .before .before .before .before .before .pre .2) (c .before .before .before .before .before .before .before .args .words .now) (c .before .before .before .before .before .before .before .args .elems .now) (c .before .before .before .before .before .before .before .args .old .now) (c .before .before .before .before .before .before .before .args .table .now) (c .before .before .before .before .before .before .before .pre .3), elems-long (c .before .before .before .before .before .before .before .pre .0) (c .before .before .before .before .before .before .before .pre .1) (c .before .before .before .before .before .before .before .pre .2) (c .before .before .before .before .before .before .before .args .words .now) (c .before .before .before .before .before .before .before .args .elems .now) (c .before .before .before .before .before .before .before .args .old .now) (c .before .before .before .before .before .before .before .args .table .now) (c .before .before .before .before .before .before .before .pre .3), c .before .before .before .before .before .before .before .pre .3 .within)))
 
--- src/lib.rt:242:5
 write-words-requires : tie.Need-write-words-requires
 write-words-requires c κs = omega (arith, ap length (in-use-is (c .before .before .before .before .before .before .before .pre .0) (c .before .before .before .before .before .before .before .pre .1) (c .before .before .before .before .before .before .before .pre .2) (c .before .before .before .before .before .before .before .args .words .now) (c .before .before .before .before .before .before .before .args .elems .now) (c .before .before .before .before .before .before .before .args .old .now) (c .before .before .before .before .before .before .before .args .table .now) (c .before .before .before .before .before .before .before .pre .3)), used-is (c .before .before .before .before .before .before .before .pre .0) (c .before .before .before .before .before .before .before .pre .1) (c .before .before .before .before .before .before .before .pre .2) (c .before .before .before .before .before .before .before .args .words .now) (c .before .before .before .before .before .before .before .args .elems .now) (c .before .before .before .before .before .before .before .args .old .now) (c .before .before .before .before .before .before .before .args .table .now) (c .before .before .before .before .before .before .before .pre .3), count-is (c .before .before .before .before .before .before .before .pre .0) (c .before .before .before .before .before .before .before .pre .1) (c .before .before .before .before .before .before .before .pre .2) (c .before .before .before .before .before .before .before .args .words .now) (c .before .before .before .before .before .before .before .args .elems .now) (c .before .before .before .before .before .before .before .args .old .now) (c .before .before .before .before .before .before .before .args .table .now) (c .before .before .before .before .before .before .before .pre .3), c .before .before .before .before .before .before .before .pre .3 .within, c .before .before .before .before .before .before .before .pre .3 .most, c .before .before .before .before .before .before .before .pre .3 .old-long)
 
--- src/lib.rt:243:9
 element-turns-requires : tie.Need-element-turns-requires
 element-turns-requires c κs = (_, _, _, begins (c .before .before .before .before .before .before .before .before .before .before .before .before .before .before .pre .0) (c .before .before .before .before .before .before .before .before .before .before .before .before .before .before .pre .1) (c .before .before .before .before .before .before .before .before .before .before .before .before .before .before .pre .2) (c .before .before .before .before .before .before .before .before .before .before .before .before .before .before .args .words .now) (c .before .before .before .before .before .before .before .before .before .before .before .before .before .before .args .elems .now) (c .before .before .before .before .before .before .before .before .before .before .before .before .before .before .args .old .now) (c .before .before .before .before .before .before .before .before .before .before .before .before .before .before .args .table .now) (c .before .before .before .before .before .before .before .before .before .before .before .before .before .before .pre .3) _ (c .before .before .before .before .before .before .write-words .ensures))
 
--- src/lib.rt:244:16
 mul-from : tie.Need-mul-from
 mul-from c = omega (arith, end-small (c .before .before .before .before .before .before .before .before .before .before .before .before .before .before .before .before .before .before .before .before .before .pre .0) (c .before .before .before .before .before .before .before .before .before .before .before .before .before .before .before .before .before .before .before .before .before .pre .1) (c .before .before .before .before .before .before .before .before .before .before .before .before .before .before .before .before .before .before .before .before .before .pre .2) (c .before .before .before .before .before .before .before .before .before .before .before .before .before .before .before .before .before .before .before .before .before .args .words .now) (c .before .before .before .before .before .before .before .before .before .before .before .before .before .before .before .before .before .before .before .before .before .args .elems .now) (c .before .before .before .before .before .before .before .before .before .before .before .before .before .before .before .before .before .before .before .before .before .args .old .now) (c .before .before .before .before .before .before .before .before .before .before .before .before .before .before .before .before .before .before .before .before .before .args .table .now) (c .before .before .before .before .before .before .before .before .before .before .before .before .before .before .before .before .before .before .before .before .before .pre .3) _ _ (c .before .before .before .before .before .before .element-turns .result) (c .before .before .before .before .before .before .element-turns .ensures _ _ _ (begins (c .before .before .before .before .before .before .before .before .before .before .before .before .before .before .before .before .before .before .before .before .before .pre .0) (c .before .before .before .before .before .before .before .before .before .before .before .before .before .before .before .before .before .before .before .before .before .pre .1) (c .before .before .before .before .before .before .before .before .before .before .before .before .before .before .before .before .before .before .before .before .before .pre .2) (c .before .before .before .before .before .before .before .before .before .before .before .before .before .before .before .before .before .before .before .before .before .args .words .now) (c .before .before .before .before .before .before .before .before .before .before .before .before .before .before .before .before .before .before .before .before .before .args .elems .now) (c .before .before .before .before .before .before .before .before .before .before .before .before .before .before .before .before .before .before .before .before .before .args .old .now) (c .before .before .before .before .before .before .before .before .before .before .before .before .before .before .before .before .before .before .before .before .before .args .table .now) (c .before .before .before .before .before .before .before .before .before .before .before .before .before .before .before .before .before .before .before .before .before .pre .3) _ (c .before .before .before .before .before .before .before .before .before .before .before .before .before .write-words .ensures))), count-is (c .before .before .before .before .before .before .before .before .before .before .before .before .before .before .before .before .before .before .before .before .before .pre .0) (c .before .before .before .before .before .before .before .before .before .before .before .before .before .before .before .before .before .before .before .before .before .pre .1) (c .before .before .before .before .before .before .before .before .before .before .before .before .before .before .before .before .before .before .before .before .before .pre .2) (c .before .before .before .before .before .before .before .before .before .before .before .before .before .before .before .before .before .before .before .before .before .args .words .now) (c .before .before .before .before .before .before .before .before .before .before .before .before .before .before .before .before .before .before .before .before .before .args .elems .now) (c .before .before .before .before .before .before .before .before .before .before .before .before .before .before .before .before .before .before .before .before .before .args .old .now) (c .before .before .before .before .before .before .before .before .before .before .before .before .before .before .before .before .before .before .before .before .before .args .table .now) (c .before .before .before .before .before .before .before .before .before .before .before .before .before .before .before .before .before .before .before .before .before .pre .3), c .before .before .before .before .before .before .before .before .before .before .before .before .before .before .before .before .before .before .before .before .before .pre .3 .within, c .before .before .before .before .before .before .before .before .before .before .before .before .before .before .before .before .before .before .before .before .before .pre .3 .most)
 
--- src/lib.rt:245:29
 mul-clear-words : tie.Need-mul-clear-words
 mul-clear-words c = omega (arith, end-small (c .before .before .before .before .before .before .before .before .before .before .before .before .before .before .before .before .before .before .before .before .before .pre .0) (c .before .before .before .before .before .before .before .before .before .before .before .before .before .before .before .before .before .before .before .before .before .pre .1) (c .before .before .before .before .before .before .before .before .before .before .before .before .before .before .before .before .before .before .before .before .before .pre .2) (c .before .before .before .before .before .before .before .before .before .before .before .before .before .before .before .before .before .before .before .before .before .args .words .now) (c .before .before .before .before .before .before .before .before .before .before .before .before .before .before .before .before .before .before .before .before .before .args .elems .now) (c .before .before .before .before .before .before .before .before .before .before .before .before .before .before .before .before .before .before .before .before .before .args .old .now) (c .before .before .before .before .before .before .before .before .before .before .before .before .before .before .before .before .before .before .before .before .before .args .table .now) (c .before .before .before .before .before .before .before .before .before .before .before .before .before .before .before .before .before .before .before .before .before .pre .3) _ _ (c .before .before .before .before .before .before .element-turns .result) (c .before .before .before .before .before .before .element-turns .ensures _ _ _ (begins (c .before .before .before .before .before .before .before .before .before .before .before .before .before .before .before .before .before .before .before .before .before .pre .0) (c .before .before .before .before .before .before .before .before .before .before .before .before .before .before .before .before .before .before .before .before .before .pre .1) (c .before .before .before .before .before .before .before .before .before .before .before .before .before .before .before .before .before .before .before .before .before .pre .2) (c .before .before .before .before .before .before .before .before .before .before .before .before .before .before .before .before .before .before .before .before .before .args .words .now) (c .before .before .before .before .before .before .before .before .before .before .before .before .before .before .before .before .before .before .before .before .before .args .elems .now) (c .before .before .before .before .before .before .before .before .before .before .before .before .before .before .before .before .before .before .before .before .before .args .old .now) (c .before .before .before .before .before .before .before .before .before .before .before .before .before .before .before .before .before .before .before .before .before .args .table .now) (c .before .before .before .before .before .before .before .before .before .before .before .before .before .before .before .before .before .before .before .before .before .pre .3) _ (c .before .before .before .before .before .before .before .before .before .before .before .before .before .write-words .ensures))), count-is (c .before .before .before .before .before .before .before .before .before .before .before .before .before .before .before .before .before .before .before .before .before .pre .0) (c .before .before .before .before .before .before .before .before .before .before .before .before .before .before .before .before .before .before .before .before .before .pre .1) (c .before .before .before .before .before .before .before .before .before .before .before .before .before .before .before .before .before .before .before .before .before .pre .2) (c .before .before .before .before .before .before .before .before .before .before .before .before .before .before .before .before .before .before .before .before .before .args .words .now) (c .before .before .before .before .before .before .before .before .before .before .before .before .before .before .before .before .before .before .before .before .before .args .elems .now) (c .before .before .before .before .before .before .before .before .before .before .before .before .before .before .before .before .before .before .before .before .before .args .old .now) (c .before .before .before .before .before .before .before .before .before .before .before .before .before .before .before .before .before .before .before .before .before .args .table .now) (c .before .before .before .before .before .before .before .before .before .before .before .before .before .before .before .before .before .before .before .before .before .pre .3), c .before .before .before .before .before .before .before .before .before .before .before .before .before .before .before .before .before .before .before .before .before .pre .3 .within, c .before .before .before .before .before .before .before .before .before .before .before .before .before .before .before .before .before .before .before .before .before .pre .3 .most)
 
--- src/lib.rt:245:29
 sub-clear-words : tie.Need-sub-clear-words
 sub-clear-words c = end-small (c .before .before .before .before .before .before .before .before .before .before .before .before .before .before .before .before .before .before .before .before .before .pre .0) (c .before .before .before .before .before .before .before .before .before .before .before .before .before .before .before .before .before .before .before .before .before .pre .1) (c .before .before .before .before .before .before .before .before .before .before .before .before .before .before .before .before .before .before .before .before .before .pre .2) (c .before .before .before .before .before .before .before .before .before .before .before .before .before .before .before .before .before .before .before .before .before .args .words .now) (c .before .before .before .before .before .before .before .before .before .before .before .before .before .before .before .before .before .before .before .before .before .args .elems .now) (c .before .before .before .before .before .before .before .before .before .before .before .before .before .before .before .before .before .before .before .before .before .args .old .now) (c .before .before .before .before .before .before .before .before .before .before .before .before .before .before .before .before .before .before .before .before .before .args .table .now) (c .before .before .before .before .before .before .before .before .before .before .before .before .before .before .before .before .before .before .before .before .before .pre .3) _ _ (c .before .before .before .before .before .before .element-turns .result) (c .before .before .before .before .before .before .element-turns .ensures _ _ _ (begins (c .before .before .before .before .before .before .before .before .before .before .before .before .before .before .before .before .before .before .before .before .before .pre .0) (c .before .before .before .before .before .before .before .before .before .before .before .before .before .before .before .before .before .before .before .before .before .pre .1) (c .before .before .before .before .before .before .before .before .before .before .before .before .before .before .before .before .before .before .before .before .before .pre .2) (c .before .before .before .before .before .before .before .before .before .before .before .before .before .before .before .before .before .before .before .before .before .args .words .now) (c .before .before .before .before .before .before .before .before .before .before .before .before .before .before .before .before .before .before .before .before .before .args .elems .now) (c .before .before .before .before .before .before .before .before .before .before .before .before .before .before .before .before .before .before .before .before .before .args .old .now) (c .before .before .before .before .before .before .before .before .before .before .before .before .before .before .before .before .before .before .before .before .before .args .table .now) (c .before .before .before .before .before .before .before .before .before .before .before .before .before .before .before .before .before .before .before .before .before .pre .3) _ (c .before .before .before .before .before .before .before .before .before .before .before .before .before .write-words .ensures)))
 
--- src/lib.rt:245:29
 part-clear-words-start : tie.Need-part-clear-words-start
 part-clear-words-start c = end-small (c .before .before .before .before .before .before .before .before .before .before .before .before .before .before .before .before .before .before .before .before .before .pre .0) (c .before .before .before .before .before .before .before .before .before .before .before .before .before .before .before .before .before .before .before .before .before .pre .1) (c .before .before .before .before .before .before .before .before .before .before .before .before .before .before .before .before .before .before .before .before .before .pre .2) (c .before .before .before .before .before .before .before .before .before .before .before .before .before .before .before .before .before .before .before .before .before .args .words .now) (c .before .before .before .before .before .before .before .before .before .before .before .before .before .before .before .before .before .before .before .before .before .args .elems .now) (c .before .before .before .before .before .before .before .before .before .before .before .before .before .before .before .before .before .before .before .before .before .args .old .now) (c .before .before .before .before .before .before .before .before .before .before .before .before .before .before .before .before .before .before .before .before .before .args .table .now) (c .before .before .before .before .before .before .before .before .before .before .before .before .before .before .before .before .before .before .before .before .before .pre .3) _ _ (c .before .before .before .before .before .before .element-turns .result) (c .before .before .before .before .before .before .element-turns .ensures _ _ _ (begins (c .before .before .before .before .before .before .before .before .before .before .before .before .before .before .before .before .before .before .before .before .before .pre .0) (c .before .before .before .before .before .before .before .before .before .before .before .before .before .before .before .before .before .before .before .before .before .pre .1) (c .before .before .before .before .before .before .before .before .before .before .before .before .before .before .before .before .before .before .before .before .before .pre .2) (c .before .before .before .before .before .before .before .before .before .before .before .before .before .before .before .before .before .before .before .before .before .args .words .now) (c .before .before .before .before .before .before .before .before .before .before .before .before .before .before .before .before .before .before .before .before .before .args .elems .now) (c .before .before .before .before .before .before .before .before .before .before .before .before .before .before .before .before .before .before .before .before .before .args .old .now) (c .before .before .before .before .before .before .before .before .before .before .before .before .before .before .before .before .before .before .before .before .before .args .table .now) (c .before .before .before .before .before .before .before .before .before .before .before .before .before .before .before .before .before .before .before .before .before .pre .3) _ (c .before .before .before .before .before .before .before .before .before .before .before .before .before .write-words .ensures)))
 
--- src/lib.rt:245:29
 part-clear-words-end : tie.Need-part-clear-words-end
 part-clear-words-end c = elems-end (c .before .before .before .before .before .before .before .before .before .before .before .before .before .before .before .before .before .before .before .before .before .pre .0) (c .before .before .before .before .before .before .before .before .before .before .before .before .before .before .before .before .before .before .before .before .before .pre .1) (c .before .before .before .before .before .before .before .before .before .before .before .before .before .before .before .before .before .before .before .before .before .pre .2) (c .before .before .before .before .before .before .before .before .before .before .before .before .before .before .before .before .before .before .before .before .before .args .words .now) (c .before .before .before .before .before .before .before .before .before .before .before .before .before .before .before .before .before .before .before .before .before .args .elems .now) (c .before .before .before .before .before .before .before .before .before .before .before .before .before .before .before .before .before .before .before .before .before .args .old .now) (c .before .before .before .before .before .before .before .before .before .before .before .before .before .before .before .before .before .before .before .before .before .args .table .now) (c .before .before .before .before .before .before .before .before .before .before .before .before .before .before .before .before .before .before .before .before .before .pre .3) _ _ (c .before .before .before .before .before .before .element-turns .result) (c .before .before .before .before .before .before .element-turns .ensures _ _ _ (begins (c .before .before .before .before .before .before .before .before .before .before .before .before .before .before .before .before .before .before .before .before .before .pre .0) (c .before .before .before .before .before .before .before .before .before .before .before .before .before .before .before .before .before .before .before .before .before .pre .1) (c .before .before .before .before .before .before .before .before .before .before .before .before .before .before .before .before .before .before .before .before .before .pre .2) (c .before .before .before .before .before .before .before .before .before .before .before .before .before .before .before .before .before .before .before .before .before .args .words .now) (c .before .before .before .before .before .before .before .before .before .before .before .before .before .before .before .before .before .before .before .before .before .args .elems .now) (c .before .before .before .before .before .before .before .before .before .before .before .before .before .before .before .before .before .before .before .before .before .args .old .now) (c .before .before .before .before .before .before .before .before .before .before .before .before .before .before .before .before .before .before .before .before .before .args .table .now) (c .before .before .before .before .before .before .before .before .before .before .before .before .before .before .before .before .before .before .before .before .before .pre .3) _ (c .before .before .before .before .before .before .before .before .before .before .before .before .before .write-words .ensures)))
 
--- src/lib.rt:245:5
 clear-words-requires : tie.Need-clear-words-requires
 clear-words-requires c κs = search needs
 
--- src/lib.rt:246:5
 slice-write-words : tie.Need-slice-write-words
 slice-write-words c = omega (arith, header-there (c .before .before .before .before .before .before .before .before .before .before .before .before .before .before .before .before .before .before .before .before .before .before .before .before .before .pre .0) (c .before .before .before .before .before .before .before .before .before .before .before .before .before .before .before .before .before .before .before .before .before .before .before .before .before .pre .1) (c .before .before .before .before .before .before .before .before .before .before .before .before .before .before .before .before .before .before .before .before .before .before .before .before .before .pre .2) (c .before .before .before .before .before .before .before .before .before .before .before .before .before .before .before .before .before .before .before .before .before .before .before .before .before .args .words .now) (c .before .before .before .before .before .before .before .before .before .before .before .before .before .before .before .before .before .before .before .before .before .before .before .before .before .args .elems .now) (c .before .before .before .before .before .before .before .before .before .before .before .before .before .before .before .before .before .before .before .before .before .before .before .before .before .args .old .now) (c .before .before .before .before .before .before .before .before .before .before .before .before .before .before .before .before .before .before .before .before .before .before .before .before .before .args .table .now) (c .before .before .before .before .before .before .before .before .before .before .before .before .before .before .before .before .before .before .before .before .before .before .before .before .before .pre .3), c .before .before .before .before .before .before .before .before .before .before .element-turns .kept .0)
 
--- src/lib.rt:237:1
 same-length : tie.Need-same-length
 same-length c = search needs
 
--- src/lib.rt:237:1
 same-length-2 : tie.Need-same-length-2
 same-length-2 c = search needs
 
--- src/lib.rt:237:1
 same-length-3 : tie.Need-same-length-3
 same-length-3 c = search needs
 
--- src/lib.rt:237:1
 same-length-4 : tie.Need-same-length-4
 same-length-4 c = search needs
 
--- src/lib.rt:237:1
 returns : tie.Need-returns
 returns c = λ n h room l. packs n h room (c .before .before .before .before .before .before .before .before .before .before .before .before .before .before .before .before .before .before .before .before .before .before .before .before .before .args .words .now) (c .before .before .before .before .before .before .before .before .before .before .before .before .before .before .before .before .before .before .before .before .before .before .before .before .before .args .elems .now) (c .before .before .before .before .before .before .before .before .before .before .before .before .before .before .before .before .before .before .before .before .before .before .before .before .before .args .old .now) (c .before .before .before .before .before .before .before .before .before .before .before .before .before .before .before .before .before .before .before .before .before .before .before .before .before .args .table .now) l _ _ (c .before .before .before .before .before .before .before .before .before .before .element-turns .result) (c .before .before .before .before .before .before .before .before .before .before .element-turns .ensures n h room (begins n h room (c .before .before .before .before .before .before .before .before .before .before .before .before .before .before .before .before .before .before .before .before .before .before .before .before .before .args .words .now) (c .before .before .before .before .before .before .before .before .before .before .before .before .before .before .before .before .before .before .before .before .before .before .before .before .before .args .elems .now) (c .before .before .before .before .before .before .before .before .before .before .before .before .before .before .before .before .before .before .before .before .before .before .before .before .before .args .old .now) (c .before .before .before .before .before .before .before .before .before .before .before .before .before .before .before .before .before .before .before .before .before .before .before .before .before .args .table .now) l _ (c .before .before .before .before .before .before .before .before .before .before .before .before .before .before .before .before .before .write-words .ensures))) _ (c .before .before .clear-words .ensures)
 

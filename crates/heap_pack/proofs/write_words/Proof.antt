@@ -8,8 +8,6 @@ use Rattle.leaf_cells.proofs.RoomLaws.{stored-start, stored-on, stored-end}
 use borrow.Author.Needs.{needs}
 use Rattle.heap_pack.proofs.write_words.Statement.{statement}
 use Rattle.heap_pack.proofs.write_words.Tie as tie
-use Rattle.heap_pack.proofs.write_words.Reads as reads
-use Rattle.heap_pack.proofs.write_words.Lts as lts
 
 abbrev Inv-loop : tie.InvT-loop
 Inv-loop words₀ at new i₀ words i = (i ≤ length new) × (length words ≡ length words₀) × (stored words (at + i) (drop i new) ≡ stored words₀ at new)
@@ -17,47 +15,36 @@ Inv-loop words₀ at new i₀ words i = (i ≤ length new) × (length words ≡ 
 abbrev μ-loop : tie.MeasureT-loop
 μ-loop words₀ at new i₀ words i = length new - i
 
--- src/lib.rt:91:5
 loop-holds : tie.Need-loop-holds Inv-loop μ-loop
 loop-holds c = (search needs, refl, stored-start (c .args .words .now) (c .args .at) (c .args .new .now))
 
--- src/lib.rt:92:25
 mul-words : tie.Need-mul-words Inv-loop μ-loop
 mul-words c = search needs
 
--- src/lib.rt:92:25
 shared-slice-read-words : tie.Need-shared-slice-read-words Inv-loop μ-loop
 shared-slice-read-words c = search needs
 
--- src/lib.rt:92:15
 add-words : tie.Need-add-words Inv-loop μ-loop
 add-words c = search needs
 
--- src/lib.rt:92:9
 mul-words-2 : tie.Need-mul-words-2 Inv-loop μ-loop
 mul-words-2 c = search needs
 
--- src/lib.rt:92:9
 slice-write-words : tie.Need-slice-write-words Inv-loop μ-loop
 slice-write-words c = search needs
 
--- src/lib.rt:93:9
 add-i : tie.Need-add-i Inv-loop μ-loop
 add-i c = search needs
 
--- src/lib.rt:91:5
 loop-less : tie.Need-loop-less Inv-loop μ-loop
 loop-less c = search needs
 
--- src/lib.rt:91:5
 loop-again : tie.Need-loop-again Inv-loop μ-loop
 loop-again c = (search needs, search needs, stored-on (c .before .before .loop .words) (c .before .before .before .args .at) (c .before .before .before .args .new .now) (c .before .before .loop .i) (c .before .loop-test .taken) ∙ c .before .before .loop .inv .2)
 
--- src/lib.rt:86:1
 same-length : tie.Need-same-length Inv-loop μ-loop
 same-length c = search needs
 
--- src/lib.rt:86:1
 returns : tie.Need-returns Inv-loop μ-loop
 returns c = sym (stored-end (c .before .loop .words) (c .before .before .args .at + c .before .loop .i) (c .before .before .args .new .now) (c .before .loop .i) (c .loop-test .left)) ∙ c .before .loop .inv .2
 
