@@ -51,10 +51,10 @@ fn push_roots(map: &mut [u8], scratch: &mut [u64], roots: &[u64]) -> usize
     ensures { λ r. ⌜ Pushed (now (roots .entry)) (now (map .entry)) (now (scratch .entry)) 0 (now (map .exit)) (now (scratch .exit)) r ⌝ }
 {
     let mut top = 0;
-    let mut i = 0;
-    while i < roots.len() {
-        top = push(map, scratch, top, roots[i] as usize);
-        i += 1;
+    let mut k = 0;
+    while k < roots.len() {
+        top = push(map, scratch, top, roots[k] as usize);
+        k += 1;
     }
     top
 }
@@ -84,11 +84,11 @@ fn push_elements(
     ensures { λ r. ⌜ Pushed (slots-among (values (now (elems .entry)) place size)) (now (map .entry)) (now (scratch .entry)) top (now (map .exit)) (now (scratch .exit)) r ⌝ }
 {
     let mut height = top;
-    let mut i = 0;
-    while i < size {
-        let v = leaf_cells::load_element(elems, place + i);
+    let mut j = 0;
+    while j < size {
+        let v = leaf_cells::load_element(elems, place + j);
         height = push_value(map, scratch, height, v);
-        i += 1;
+        j += 1;
     }
     height
 }

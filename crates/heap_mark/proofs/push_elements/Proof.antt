@@ -15,10 +15,10 @@ use Rattle.heap_mark.proofs.push_elements.Statement.{statement}
 use Rattle.heap_mark.proofs.push_elements.Tie as tie
 
 abbrev Inv-loop : tie.InvT-loop
-Inv-loop elems map₀ scratch₀ top place size height₀ i₀ map scratch height i = (i ≤ size) × Along (slots-among (values elems place i)) (slots-among (values elems (place + i) (size - i))) map₀ scratch₀ top map scratch height
+Inv-loop elems map₀ scratch₀ top place size height₀ j₀ map scratch height j = (j ≤ size) × Along (slots-among (values elems place j)) (slots-among (values elems (place + j) (size - j))) map₀ scratch₀ top map scratch height
 
 abbrev μ-loop : tie.MeasureT-loop
-μ-loop elems map₀ scratch₀ top place size height₀ i₀ map scratch height i = size - i
+μ-loop elems map₀ scratch₀ top place size height₀ j₀ map scratch height j = size - j
 
 loop-holds : tie.Need-loop-holds Inv-loop μ-loop
 unfolding values slots-among basics
@@ -31,16 +31,16 @@ load-element-requires : tie.Need-load-element-requires Inv-loop μ-loop
 load-element-requires c κs = search needs
 
 push-value-requires : tie.Need-push-value-requires Inv-loop μ-loop
-push-value-requires c κs = along-next (slots-among (values (c .before .before .before .before .before .before .before .before .args .elems .now) (c .before .before .before .before .before .before .before .before .args .place) (c .before .before .before .before .loop .i))) (slots-among (values (c .before .before .before .before .before .before .before .before .args .elems .now) (c .before .before .before .before .before .before .before .before .args .place + c .before .before .before .before .loop .i) (c .before .before .before .before .before .before .before .before .args .size - c .before .before .before .before .loop .i))) (c .before .before .before .before .before .before .before .before .args .map .now) (c .before .before .before .before .before .before .before .before .args .scratch .now) (c .before .before .before .before .before .before .before .before .args .top) (c .before .before .before .before .loop .map) (c .before .before .before .before .loop .scratch) (c .before .before .before .before .loop .height) (c .before .before .before .before .loop .inv .1) (slots-among (value-of (c .before .before .load-element .result) ∷ [])) (slots-among (values (c .before .before .before .before .before .before .before .before .args .elems .now) (c .before .before .before .before .before .before .before .before .args .place + (c .before .before .before .before .loop .i + 1)) (c .before .before .before .before .before .before .before .before .args .size - (c .before .before .before .before .loop .i + 1)))) (slots-first (c .before .before .before .before .before .before .before .before .args .elems .now) (c .before .before .before .before .before .before .before .before .args .place) (c .before .before .before .before .loop .i) (c .before .before .before .before .before .before .before .before .args .size) (c .before .before .before .loop-test .taken) ∙ ap (λ (v : cells.Value). slots-among (v ∷ []) ++ (slots-among (values (c .before .before .before .before .before .before .before .before .args .elems .now) (c .before .before .before .before .before .before .before .before .args .place + (c .before .before .before .before .loop .i + 1)) (c .before .before .before .before .before .before .before .before .args .size - (c .before .before .before .before .loop .i + 1))))) (sym (c .before .before .load-element .ensures)))
+push-value-requires c κs = along-next (slots-among (values (c .before .before .before .before .before .before .before .before .args .elems .now) (c .before .before .before .before .before .before .before .before .args .place) (c .before .before .before .before .loop .j))) (slots-among (values (c .before .before .before .before .before .before .before .before .args .elems .now) (c .before .before .before .before .before .before .before .before .args .place + c .before .before .before .before .loop .j) (c .before .before .before .before .before .before .before .before .args .size - c .before .before .before .before .loop .j))) (c .before .before .before .before .before .before .before .before .args .map .now) (c .before .before .before .before .before .before .before .before .args .scratch .now) (c .before .before .before .before .before .before .before .before .args .top) (c .before .before .before .before .loop .map) (c .before .before .before .before .loop .scratch) (c .before .before .before .before .loop .height) (c .before .before .before .before .loop .inv .1) (slots-among (value-of (c .before .before .load-element .result) ∷ [])) (slots-among (values (c .before .before .before .before .before .before .before .before .args .elems .now) (c .before .before .before .before .before .before .before .before .args .place + (c .before .before .before .before .loop .j + 1)) (c .before .before .before .before .before .before .before .before .args .size - (c .before .before .before .before .loop .j + 1)))) (slots-first (c .before .before .before .before .before .before .before .before .args .elems .now) (c .before .before .before .before .before .before .before .before .args .place) (c .before .before .before .before .loop .j) (c .before .before .before .before .before .before .before .before .args .size) (c .before .before .before .loop-test .taken) ∙ ap (λ (v : cells.Value). slots-among (v ∷ []) ++ (slots-among (values (c .before .before .before .before .before .before .before .before .args .elems .now) (c .before .before .before .before .before .before .before .before .args .place + (c .before .before .before .before .loop .j + 1)) (c .before .before .before .before .before .before .before .before .args .size - (c .before .before .before .before .loop .j + 1))))) (sym (c .before .before .load-element .ensures)))
 
-add-i : tie.Need-add-i Inv-loop μ-loop
-add-i c = search needs
+add-j : tie.Need-add-j Inv-loop μ-loop
+add-j c = search needs
 
 loop-less : tie.Need-loop-less Inv-loop μ-loop
 loop-less c = omega arith
 
 loop-again : tie.Need-loop-again Inv-loop μ-loop
-loop-again c = (omega arith, along-on (slots-among (values (c .before .before .before .before .before .before .before .before .before .before .before .before .before .args .elems .now) (c .before .before .before .before .before .before .before .before .before .before .before .before .before .args .place) (c .before .before .before .before .before .before .before .before .before .loop .i))) (slots-among (values (c .before .before .before .before .before .before .before .before .before .before .before .before .before .args .elems .now) (c .before .before .before .before .before .before .before .before .before .before .before .before .before .args .place + c .before .before .before .before .before .before .before .before .before .loop .i) (c .before .before .before .before .before .before .before .before .before .before .before .before .before .args .size - c .before .before .before .before .before .before .before .before .before .loop .i))) (c .before .before .before .before .before .before .before .before .before .before .before .before .before .args .map .now) (c .before .before .before .before .before .before .before .before .before .before .before .before .before .args .scratch .now) (c .before .before .before .before .before .before .before .before .before .before .before .before .before .args .top) (c .before .before .before .before .before .before .before .before .before .loop .map) (c .before .before .before .before .before .before .before .before .before .loop .scratch) (c .before .before .before .before .before .before .before .before .before .loop .height) (c .before .before .before .before .before .before .before .before .before .loop .inv .1) (slots-among (value-of (c .before .before .before .before .before .before .before .load-element .result) ∷ [])) (slots-among (values (c .before .before .before .before .before .before .before .before .before .before .before .before .before .args .elems .now) (c .before .before .before .before .before .before .before .before .before .before .before .before .before .args .place + (c .before .before .before .before .before .before .before .before .before .loop .i + 1)) (c .before .before .before .before .before .before .before .before .before .before .before .before .before .args .size - (c .before .before .before .before .before .before .before .before .before .loop .i + 1)))) (slots-among (values (c .before .before .before .before .before .before .before .before .before .before .before .before .before .args .elems .now) (c .before .before .before .before .before .before .before .before .before .before .before .before .before .args .place) (c .before .before .before .before .before .before .before .before .before .loop .i + 1))) (c .before .before .before .before .push-value .last .0) (c .before .before .before .before .push-value .last .1 .0) (c .before .before .before .before .push-value .result) (slots-first (c .before .before .before .before .before .before .before .before .before .before .before .before .before .args .elems .now) (c .before .before .before .before .before .before .before .before .before .before .before .before .before .args .place) (c .before .before .before .before .before .before .before .before .before .loop .i) (c .before .before .before .before .before .before .before .before .before .before .before .before .before .args .size) (c .before .before .before .before .before .before .before .before .loop-test .taken) ∙ ap (λ (v : cells.Value). slots-among (v ∷ []) ++ (slots-among (values (c .before .before .before .before .before .before .before .before .before .before .before .before .before .args .elems .now) (c .before .before .before .before .before .before .before .before .before .before .before .before .before .args .place + (c .before .before .before .before .before .before .before .before .before .loop .i + 1)) (c .before .before .before .before .before .before .before .before .before .before .before .before .before .args .size - (c .before .before .before .before .before .before .before .before .before .loop .i + 1))))) (sym (c .before .before .before .before .before .before .before .load-element .ensures))) (slots-last (c .before .before .before .before .before .before .before .before .before .before .before .before .before .args .elems .now) (c .before .before .before .before .before .before .before .before .before .before .before .before .before .args .place) (c .before .before .before .before .before .before .before .before .before .loop .i) ∙ ap (λ (v : cells.Value). slots-among (values (c .before .before .before .before .before .before .before .before .before .before .before .before .before .args .elems .now) (c .before .before .before .before .before .before .before .before .before .before .before .before .before .args .place) (c .before .before .before .before .before .before .before .before .before .loop .i)) ++ slots-among (v ∷ [])) (sym (c .before .before .before .before .before .before .before .load-element .ensures))) (c .before .before .before .before .push-value .ensures) (c .before .before .before .before .push-value .kept .1 .0))
+loop-again c = (omega arith, along-on (slots-among (values (c .before .before .before .before .before .before .before .before .before .before .before .before .before .args .elems .now) (c .before .before .before .before .before .before .before .before .before .before .before .before .before .args .place) (c .before .before .before .before .before .before .before .before .before .loop .j))) (slots-among (values (c .before .before .before .before .before .before .before .before .before .before .before .before .before .args .elems .now) (c .before .before .before .before .before .before .before .before .before .before .before .before .before .args .place + c .before .before .before .before .before .before .before .before .before .loop .j) (c .before .before .before .before .before .before .before .before .before .before .before .before .before .args .size - c .before .before .before .before .before .before .before .before .before .loop .j))) (c .before .before .before .before .before .before .before .before .before .before .before .before .before .args .map .now) (c .before .before .before .before .before .before .before .before .before .before .before .before .before .args .scratch .now) (c .before .before .before .before .before .before .before .before .before .before .before .before .before .args .top) (c .before .before .before .before .before .before .before .before .before .loop .map) (c .before .before .before .before .before .before .before .before .before .loop .scratch) (c .before .before .before .before .before .before .before .before .before .loop .height) (c .before .before .before .before .before .before .before .before .before .loop .inv .1) (slots-among (value-of (c .before .before .before .before .before .before .before .load-element .result) ∷ [])) (slots-among (values (c .before .before .before .before .before .before .before .before .before .before .before .before .before .args .elems .now) (c .before .before .before .before .before .before .before .before .before .before .before .before .before .args .place + (c .before .before .before .before .before .before .before .before .before .loop .j + 1)) (c .before .before .before .before .before .before .before .before .before .before .before .before .before .args .size - (c .before .before .before .before .before .before .before .before .before .loop .j + 1)))) (slots-among (values (c .before .before .before .before .before .before .before .before .before .before .before .before .before .args .elems .now) (c .before .before .before .before .before .before .before .before .before .before .before .before .before .args .place) (c .before .before .before .before .before .before .before .before .before .loop .j + 1))) (c .before .before .before .before .push-value .last .0) (c .before .before .before .before .push-value .last .1 .0) (c .before .before .before .before .push-value .result) (slots-first (c .before .before .before .before .before .before .before .before .before .before .before .before .before .args .elems .now) (c .before .before .before .before .before .before .before .before .before .before .before .before .before .args .place) (c .before .before .before .before .before .before .before .before .before .loop .j) (c .before .before .before .before .before .before .before .before .before .before .before .before .before .args .size) (c .before .before .before .before .before .before .before .before .loop-test .taken) ∙ ap (λ (v : cells.Value). slots-among (v ∷ []) ++ (slots-among (values (c .before .before .before .before .before .before .before .before .before .before .before .before .before .args .elems .now) (c .before .before .before .before .before .before .before .before .before .before .before .before .before .args .place + (c .before .before .before .before .before .before .before .before .before .loop .j + 1)) (c .before .before .before .before .before .before .before .before .before .before .before .before .before .args .size - (c .before .before .before .before .before .before .before .before .before .loop .j + 1))))) (sym (c .before .before .before .before .before .before .before .load-element .ensures))) (slots-last (c .before .before .before .before .before .before .before .before .before .before .before .before .before .args .elems .now) (c .before .before .before .before .before .before .before .before .before .before .before .before .before .args .place) (c .before .before .before .before .before .before .before .before .before .loop .j) ∙ ap (λ (v : cells.Value). slots-among (values (c .before .before .before .before .before .before .before .before .before .before .before .before .before .args .elems .now) (c .before .before .before .before .before .before .before .before .before .before .before .before .before .args .place) (c .before .before .before .before .before .before .before .before .before .loop .j)) ++ slots-among (v ∷ [])) (sym (c .before .before .before .before .before .before .before .load-element .ensures))) (c .before .before .before .before .push-value .ensures) (c .before .before .before .before .push-value .kept .1 .0))
 
 same-length : tie.Need-same-length Inv-loop μ-loop
 same-length c = c .before .loop .inv .1 .map-size
@@ -49,7 +49,7 @@ same-length-2 : tie.Need-same-length-2 Inv-loop μ-loop
 same-length-2 c = c .before .loop .inv .1 .size
 
 returns : tie.Need-returns Inv-loop μ-loop
-returns c = let e : c .before .loop .i ≡ c .before .before .before .before .before .args .size = omega arith in subst (λ (n : ℕ). Pushed (slots-among (values (c .before .before .before .before .before .args .elems .now) (c .before .before .before .before .before .args .place) n)) (c .before .before .before .before .before .args .map .now) (c .before .before .before .before .before .args .scratch .now) (c .before .before .before .before .before .args .top) (c .before .loop .map) (c .before .loop .scratch) (c .before .loop .height)) e (c .before .loop .inv .1 .done)
+returns c = let e : c .before .loop .j ≡ c .before .before .before .before .before .args .size = omega arith in subst (λ (n : ℕ). Pushed (slots-among (values (c .before .before .before .before .before .args .elems .now) (c .before .before .before .before .before .args .place) n)) (c .before .before .before .before .before .args .map .now) (c .before .before .before .before .before .args .scratch .now) (c .before .before .before .before .before .args .top) (c .before .loop .map) (c .before .loop .scratch) (c .before .loop .height)) e (c .before .loop .inv .1 .done)
 
 pub push-elements-spec : {M : Type 1} → statement M
 push-elements-spec =
@@ -61,7 +61,7 @@ push-elements-spec =
     add-load-element
     load-element-requires
     push-value-requires
-    add-i
+    add-j
     loop-less
     loop-again
     same-length

@@ -11,10 +11,10 @@ use Rattle.heap_mark.proofs.push_roots.Statement.{statement}
 use Rattle.heap_mark.proofs.push_roots.Tie as tie
 
 abbrev Inv-loop : tie.InvT-loop
-Inv-loop map₀ scratch₀ roots top₀ i₀ map scratch top i = (i ≤ length roots) × Along (take i roots) (drop i roots) map₀ scratch₀ 0 map scratch top
+Inv-loop map₀ scratch₀ roots top₀ k₀ map scratch top k = (k ≤ length roots) × Along (take k roots) (drop k roots) map₀ scratch₀ 0 map scratch top
 
 abbrev μ-loop : tie.MeasureT-loop
-μ-loop map₀ scratch₀ roots top₀ i₀ map scratch top i = length roots - i
+μ-loop map₀ scratch₀ roots top₀ k₀ map scratch top k = length roots - k
 
 loop-holds : tie.Need-loop-holds Inv-loop μ-loop
 loop-holds c = (omega arith, along (c .before .before .before .args .roots .now) (c .before .before .before .args .map .now) (c .before .before .before .args .scratch .now) 0 (c .before .before .before .pre))
@@ -26,16 +26,16 @@ shared-slice-read-push : tie.Need-shared-slice-read-push Inv-loop μ-loop
 shared-slice-read-push c = search needs
 
 push-requires : tie.Need-push-requires Inv-loop μ-loop
-push-requires c κs = along-next (take (c .before .before .before .before .loop .i) (c .before .before .before .before .before .before .before .before .args .roots .now)) (drop (c .before .before .before .before .loop .i) (c .before .before .before .before .before .before .before .before .args .roots .now)) (c .before .before .before .before .before .before .before .before .args .map .now) (c .before .before .before .before .before .before .before .before .args .scratch .now) 0 (c .before .before .before .before .loop .map) (c .before .before .before .before .loop .scratch) (c .before .before .before .before .loop .top) (c .before .before .before .before .loop .inv .1) (getD (c .before .before .before .before .before .before .before .before .args .roots .now) (c .before .before .before .before .loop .i) 0 ∷ []) (drop (c .before .before .before .before .loop .i + 1) (c .before .before .before .before .before .before .before .before .args .roots .now)) (drop-more (c .before .before .before .before .before .before .before .before .args .roots .now) (c .before .before .before .before .loop .i) (c .before .before .before .loop-test .taken))
+push-requires c κs = along-next (take (c .before .before .before .before .loop .k) (c .before .before .before .before .before .before .before .before .args .roots .now)) (drop (c .before .before .before .before .loop .k) (c .before .before .before .before .before .before .before .before .args .roots .now)) (c .before .before .before .before .before .before .before .before .args .map .now) (c .before .before .before .before .before .before .before .before .args .scratch .now) 0 (c .before .before .before .before .loop .map) (c .before .before .before .before .loop .scratch) (c .before .before .before .before .loop .top) (c .before .before .before .before .loop .inv .1) (getD (c .before .before .before .before .before .before .before .before .args .roots .now) (c .before .before .before .before .loop .k) 0 ∷ []) (drop (c .before .before .before .before .loop .k + 1) (c .before .before .before .before .before .before .before .before .args .roots .now)) (drop-more (c .before .before .before .before .before .before .before .before .args .roots .now) (c .before .before .before .before .loop .k) (c .before .before .before .loop-test .taken))
 
-add-i : tie.Need-add-i Inv-loop μ-loop
-add-i c = search needs
+add-k : tie.Need-add-k Inv-loop μ-loop
+add-k c = search needs
 
 loop-less : tie.Need-loop-less Inv-loop μ-loop
 loop-less c = omega arith
 
 loop-again : tie.Need-loop-again Inv-loop μ-loop
-loop-again c = (omega arith, along-on (take (c .before .before .before .before .before .before .before .before .before .loop .i) (c .before .before .before .before .before .before .before .before .before .before .before .before .before .args .roots .now)) (drop (c .before .before .before .before .before .before .before .before .before .loop .i) (c .before .before .before .before .before .before .before .before .before .before .before .before .before .args .roots .now)) (c .before .before .before .before .before .before .before .before .before .before .before .before .before .args .map .now) (c .before .before .before .before .before .before .before .before .before .before .before .before .before .args .scratch .now) 0 (c .before .before .before .before .before .before .before .before .before .loop .map) (c .before .before .before .before .before .before .before .before .before .loop .scratch) (c .before .before .before .before .before .before .before .before .before .loop .top) (c .before .before .before .before .before .before .before .before .before .loop .inv .1) (getD (c .before .before .before .before .before .before .before .before .before .before .before .before .before .args .roots .now) (c .before .before .before .before .before .before .before .before .before .loop .i) 0 ∷ []) (drop (c .before .before .before .before .before .before .before .before .before .loop .i + 1) (c .before .before .before .before .before .before .before .before .before .before .before .before .before .args .roots .now)) (take (c .before .before .before .before .before .before .before .before .before .loop .i + 1) (c .before .before .before .before .before .before .before .before .before .before .before .before .before .args .roots .now)) (c .before .before .before .before .push .last .0) (c .before .before .before .before .push .last .1 .0) (c .before .before .before .before .push .result) (drop-more (c .before .before .before .before .before .before .before .before .before .before .before .before .before .args .roots .now) (c .before .before .before .before .before .before .before .before .before .loop .i) (c .before .before .before .before .before .before .before .before .loop-test .taken)) (take-more (c .before .before .before .before .before .before .before .before .before .before .before .before .before .args .roots .now) (c .before .before .before .before .before .before .before .before .before .loop .i) (c .before .before .before .before .before .before .before .before .loop-test .taken)) (c .before .before .before .before .push .ensures) (c .before .before .before .before .push .kept .1 .0))
+loop-again c = (omega arith, along-on (take (c .before .before .before .before .before .before .before .before .before .loop .k) (c .before .before .before .before .before .before .before .before .before .before .before .before .before .args .roots .now)) (drop (c .before .before .before .before .before .before .before .before .before .loop .k) (c .before .before .before .before .before .before .before .before .before .before .before .before .before .args .roots .now)) (c .before .before .before .before .before .before .before .before .before .before .before .before .before .args .map .now) (c .before .before .before .before .before .before .before .before .before .before .before .before .before .args .scratch .now) 0 (c .before .before .before .before .before .before .before .before .before .loop .map) (c .before .before .before .before .before .before .before .before .before .loop .scratch) (c .before .before .before .before .before .before .before .before .before .loop .top) (c .before .before .before .before .before .before .before .before .before .loop .inv .1) (getD (c .before .before .before .before .before .before .before .before .before .before .before .before .before .args .roots .now) (c .before .before .before .before .before .before .before .before .before .loop .k) 0 ∷ []) (drop (c .before .before .before .before .before .before .before .before .before .loop .k + 1) (c .before .before .before .before .before .before .before .before .before .before .before .before .before .args .roots .now)) (take (c .before .before .before .before .before .before .before .before .before .loop .k + 1) (c .before .before .before .before .before .before .before .before .before .before .before .before .before .args .roots .now)) (c .before .before .before .before .push .last .0) (c .before .before .before .before .push .last .1 .0) (c .before .before .before .before .push .result) (drop-more (c .before .before .before .before .before .before .before .before .before .before .before .before .before .args .roots .now) (c .before .before .before .before .before .before .before .before .before .loop .k) (c .before .before .before .before .before .before .before .before .loop-test .taken)) (take-more (c .before .before .before .before .before .before .before .before .before .before .before .before .before .args .roots .now) (c .before .before .before .before .before .before .before .before .before .loop .k) (c .before .before .before .before .before .before .before .before .loop-test .taken)) (c .before .before .before .before .push .ensures) (c .before .before .before .before .push .kept .1 .0))
 
 same-length : tie.Need-same-length Inv-loop μ-loop
 same-length c = c .before .loop .inv .1 .map-size
@@ -44,7 +44,7 @@ same-length-2 : tie.Need-same-length-2 Inv-loop μ-loop
 same-length-2 c = c .before .loop .inv .1 .size
 
 returns : tie.Need-returns Inv-loop μ-loop
-returns c = subst (λ (ss : List ℕ). Pushed ss (c .before .before .before .before .before .args .map .now) (c .before .before .before .before .before .args .scratch .now) 0 (c .before .loop .map) (c .before .loop .scratch) (c .before .loop .top)) (take-whole (c .before .before .before .before .before .args .roots .now) (c .before .loop .i) (c .before .loop .inv .0) (c .loop-test .left)) (c .before .loop .inv .1 .done)
+returns c = subst (λ (ss : List ℕ). Pushed ss (c .before .before .before .before .before .args .map .now) (c .before .before .before .before .before .args .scratch .now) 0 (c .before .loop .map) (c .before .loop .scratch) (c .before .loop .top)) (take-whole (c .before .before .before .before .before .args .roots .now) (c .before .loop .k) (c .before .loop .inv .0) (c .loop-test .left)) (c .before .loop .inv .1 .done)
 
 pub push-roots-spec : {M : Type 1} → statement M
 push-roots-spec =
@@ -56,7 +56,7 @@ push-roots-spec =
     mul-push
     shared-slice-read-push
     push-requires
-    add-i
+    add-k
     loop-less
     loop-again
     same-length
