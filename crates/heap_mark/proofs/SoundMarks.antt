@@ -8,7 +8,7 @@ use native.Mathlib.Omega.{arith}
 use borrow.Author.Tests.{leb-true, eq-eqb, ne-eqb}
 use lib.Dec.{eqb, leb}
 use lib.ListN.{length, getD}
-use Rattle.laws.specs.Basics.{both, every, join, zeros, basics}
+use Rattle.laws.specs.Basics.{both, every, join, member, zeros, basics}
 use Rattle.laws.proofs.Tests.{both-left, both-right, both-true}
 use Rattle.laws.proofs.Pointwise.{every-at, every-weaker}
 use Rattle.rules.specs.Numbers.{scratch-words}
@@ -25,6 +25,7 @@ use Rattle.rules.proofs.GoodSound.{sound-good}
 use Rattle.heap_sound_rows.specs.Rows.{lists}
 use Rattle.heap_sound_rows.proofs.HeapFacts.{cells-length, elements-length}
 use Rattle.heap_mark.specs.Marks.{is-marked, linked, leads, Rowed, CanMark}
+use Rattle.heap_mark.proofs.Reach.{every-member, marked-keeps}
 
 -- ---- heaps that lead alike are marked alike
 
@@ -158,3 +159,16 @@ module _ (words map bytes elems : List ℕ) where
                 g .map-size,
               );
         }
+
+    -- only slots in use are marked
+    pub marked-used : (roots : List ℕ) → every (in-use held) roots ≡ true → (x : ℕ) → member x (marked held roots) ≡ true → state-of (held .map) x ≡ 1
+    unfolding sound-rules
+    marked-used roots used x m =
+        used-slot held x
+        (marked-keeps held roots (λ t. in-use held t ≡ true) (λ t e. used-slot held t e .below)
+        (every-member (in-use held) roots used)
+        (λ t u e p.
+        every-member (in-use held) (leads-to held (cell-at held t))
+        (named-leads held (cell-at held t) (every-at (named-in-use held) (plain undefined) (held .cells) (clauses l s .named) refl t)) u p)
+        x m)
+        .state
