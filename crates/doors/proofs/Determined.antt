@@ -8,7 +8,7 @@ use lib.Dec.{eqb}
 use Rattle.laws.specs.Basics.{choose}
 use Rattle.rules.specs.Refusals.{Fault, unknown-kind, cut-short, left-over, bad-bool, bad-char, bad-utf8, Refusal, bad-setup, unsound, short-scratch, malformed, over-limit, early-label, no-such-slot, wrong-cell, no-slots, no-room, short-output, Answer, accepted, refused, told, number-of}
 use Rattle.rules.specs.Layout.{Lent}
-use Rattle.rules.specs.Calls.{Left, left, put-call, Set-up, setup, text-part, text-told, capacity-call, free-call}
+use Rattle.rules.specs.Calls.{Left, left, put-call, Set-up, setup, text-part, text-told, capacity-call, free-call, Stored, stored, cell-store, element-store}
 use Rattle.doors.specs.declared.SetupAnswer.{SetupAnswer}
 use Rattle.doors.specs.declared.SetupAnswer.the-variants as setups
 use Rattle.leaf_nodes.specs.declared.Fault as code
@@ -20,7 +20,9 @@ use Rattle.doors.specs.declared.CountAnswer.{CountAnswer}
 use Rattle.doors.specs.declared.CountAnswer.the-variants as counts
 use Rattle.doors.specs.declared.TextAnswer.{TextAnswer}
 use Rattle.doors.specs.declared.TextAnswer.the-variants as texts
-use Rattle.doors.specs.Answers.{setup-answer, set-up, put-answer, count-answer, Used, text-answer}
+use Rattle.doors.specs.declared.StoreAnswer.{StoreAnswer}
+use Rattle.doors.specs.declared.StoreAnswer.the-variants as stores
+use Rattle.doors.specs.Answers.{setup-answer, set-up, put-answer, count-answer, Used, text-answer, store-answer}
 
 -- ---- each answer of the rules comes from one answer of the code
 
@@ -144,3 +146,45 @@ text-determined l s t t' one two = one ∙ sym two
 
 pub text-told-determined : (l : Lent) (s : ℕ) (r r' : TextAnswer) → told (text-answer r) ≡ text-told l s → told (text-answer r') ≡ text-told l s → r ≡ r'
 text-told-determined l s r r' one two = sym (told-back r) ∙ ap from-told (one ∙ sym two) ∙ told-back r'
+
+-- ---- the stores
+
+-- of the refusals that a store does not give none is asked for
+refused-store : Refusal → StoreAnswer
+unfolding from-fault
+refused-store bad-setup = stores.Unsound
+refused-store unsound = stores.Unsound
+refused-store short-scratch = stores.Unsound
+refused-store (malformed f n) = stores.Malformed (from-fault f)
+refused-store over-limit = stores.Unsound
+refused-store early-label = stores.Unsound
+refused-store no-such-slot = stores.NoSuchSlot
+refused-store wrong-cell = stores.WrongCell
+refused-store no-slots = stores.Unsound
+refused-store no-room = stores.Unsound
+refused-store short-output = stores.Unsound
+
+from-store : Answer (Unit {0}) → StoreAnswer
+unfolding refused-store
+from-store (accepted a) = stores.Done
+from-store (refused r) = refused-store r
+
+store-back : (r : StoreAnswer) → from-store (store-answer r) ≡ r
+unfolding from-store
+store-back stores.Done = refl
+store-back stores.Unsound = refl
+store-back (stores.Malformed f) = ap stores.Malformed (fault-back f)
+store-back stores.NoSuchSlot = refl
+store-back stores.WrongCell = refl
+
+-- the lists lent only to read are among those at exit, as they were
+module _ (call : Stored) (r r' : StoreAnswer) (after after' : Lent) (one : stored (store-answer r) after ≡ call) (two : stored (store-answer r') after' ≡ call) where
+  stored-determined : (r ≡ r') × (after ≡ after')
+  stored-determined =
+      (sym (store-back r) ∙ ap (λ (x : Stored). from-store (x .answer)) (one ∙ sym two) ∙ store-back r', ap (λ (x : Stored). x .lent) (one ∙ sym two))
+
+pub cell-store-determined : (l : Lent) (s kind a b : ℕ) (r r' : StoreAnswer) (after after' : Lent) → stored (store-answer r) after ≡ cell-store l s kind a b → stored (store-answer r') after' ≡ cell-store l s kind a b → (r ≡ r') × (after ≡ after')
+cell-store-determined l s kind a b = stored-determined (cell-store l s kind a b)
+
+pub element-store-determined : (l : Lent) (s k kind a : ℕ) (r r' : StoreAnswer) (after after' : Lent) → stored (store-answer r) after ≡ element-store l s k kind a → stored (store-answer r') after' ≡ element-store l s k kind a → (r ≡ r') × (after ≡ after')
+element-store-determined l s k kind a = stored-determined (element-store l s k kind a)

@@ -1,4 +1,5 @@
 pub mod DoorLaws
 pub mod CheckedLaws
 pub mod PutLaws
+pub mod StoreLaws
 pub mod Determined

@@ -18,6 +18,8 @@ use Rattle.doors.specs.declared.TextAnswer.{TextAnswer}
 use Rattle.doors.specs.declared.TextAnswer.the-variants as text
 use Rattle.doors.specs.declared.TextBlock.{TextBlock}
 use Rattle.doors.specs.declared.TextBlock.the-variants as part
+use Rattle.doors.specs.declared.StoreAnswer.{StoreAnswer}
+use Rattle.doors.specs.declared.StoreAnswer.the-variants as store
 
 -- setup: 10 only
 abbrev pub setup-answer : SetupAnswer → Answer (Unit {0})
@@ -62,3 +64,11 @@ block-answer (part.Held place size) = accepted (block place size)
 block-answer part.Unsound = refused unsound
 block-answer part.NoSuchSlot = refused no-such-slot
 block-answer part.WrongCell = refused wrong-cell
+
+-- a store: 20, 11, 14, 15; what a caller gives is one node, of number 0
+abbrev pub store-answer : StoreAnswer → Answer (Unit {0})
+store-answer store.Done = accepted tt
+store-answer store.Unsound = refused unsound
+store-answer (store.Malformed f) = refused (malformed (fault-of f) 0)
+store-answer store.NoSuchSlot = refused no-such-slot
+store-answer store.WrongCell = refused wrong-cell

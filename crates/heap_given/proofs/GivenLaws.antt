@@ -211,7 +211,7 @@ module _ (capacity : ℕ) (m : List ℕ) where
 
 -- in a sound heap the lent map tells it
 module _ (l : Lent) (s : sound l ≡ true) where
-  in-use-lent : (i : ℕ) → in-use (heap-of l) i ≡ used-slot (getD (l .words) 1 0) (l .map) i
+  pub in-use-lent : (i : ℕ) → in-use (heap-of l) i ≡ used-slot (getD (l .words) 1 0) (l .map) i
   unfolding sound-rules layout-rules
   in-use-lent i =
       let c = clauses l s in

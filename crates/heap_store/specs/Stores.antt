@@ -15,9 +15,9 @@ use Rattle.heap_store.specs.declared.StoreAnswer.the-variants.{Done, Wro
 use Rattle.heap_store.specs.declared.ElementPlace.{ElementPlace}
 use Rattle.heap_store.specs.declared.ElementPlace.the-variants.{At, Missing}
 
-abbrev pub store-answer : StoreAnswer → Answer (Unit {0})
-store-answer Done = accepted tt
-store-answer WrongCell = refused wrong-cell
+abbrev pub store-told : StoreAnswer → Answer (Unit {0})
+store-told Done = accepted tt
+store-told WrongCell = refused wrong-cell
 
 abbrev pub place-answer : ElementPlace → Option ℕ
 place-answer (At p) = some p

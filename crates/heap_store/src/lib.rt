@@ -13,7 +13,7 @@ ghost use Rattle.rules.specs.Calls.{stored, element-place, store-element};
 ghost use Rattle.leaf_cells.specs.Cells.{cell-of};
 ghost use Rattle.leaf_cells.specs.Elements.{value-of};
 ghost use Rattle.heap_sound_rows.specs.Rows.{lists};
-ghost use Rattle.heap_store.specs.Stores.{store-answer, place-answer, Ready, store-cell};
+ghost use Rattle.heap_store.specs.Stores.{store-told, place-answer, Ready, store-cell};
 
 // A store is done, or 15.
 pub enum StoreAnswer {
@@ -40,7 +40,7 @@ pub fn cell_store(
     new: VCell,
 ) -> StoreAnswer
     requires { ⌜ Ready (lists (now words) (now map) (now bytes) (now elems)) slot ⌝ }
-    ensures { λ r. ⌜ stored (store-answer r) (lists (now (words .exit)) (now (map .entry)) (now (bytes .entry)) (now (elems .entry))) ≡ store-cell (lists (now (words .entry)) (now (map .entry)) (now (bytes .entry)) (now (elems .entry))) slot (cell-of new) ⌝ }
+    ensures { λ r. ⌜ stored (store-told r) (lists (now (words .exit)) (now (map .entry)) (now (bytes .entry)) (now (elems .entry))) ≡ store-cell (lists (now (words .entry)) (now (map .entry)) (now (bytes .entry)) (now (elems .entry))) slot (cell-of new) ⌝ }
 {
     if is_symbol(leaf_cells::load(words, slot)) {
         return StoreAnswer::WrongCell;
@@ -82,7 +82,7 @@ pub fn element_store(
     new: Value,
 ) -> StoreAnswer
     requires { ⌜ Ready (lists (now words) (now map) (now bytes) (now elems)) slot ⌝ }
-    ensures { λ r. ⌜ stored (store-answer r) (lists (now (words .entry)) (now (map .entry)) (now (bytes .entry)) (now (elems .exit))) ≡ store-element (lists (now (words .entry)) (now (map .entry)) (now (bytes .entry)) (now (elems .entry))) (heap-of (lists (now (words .entry)) (now (map .entry)) (now (bytes .entry)) (now (elems .entry)))) slot k (value-of new) ⌝ }
+    ensures { λ r. ⌜ stored (store-told r) (lists (now (words .entry)) (now (map .entry)) (now (bytes .entry)) (now (elems .exit))) ≡ store-element (lists (now (words .entry)) (now (map .entry)) (now (bytes .entry)) (now (elems .entry))) (heap-of (lists (now (words .entry)) (now (map .entry)) (now (bytes .entry)) (now (elems .entry)))) slot k (value-of new) ⌝ }
 {
     let place = element_place(leaf_cells::load(words, slot), k);
     match place {
