@@ -2,13 +2,14 @@
 -- the same answer and the same lent lists at exit, refusals too. A list lent only to read stays as it is. Document 01, "Each
 -- public call's promise determines the answer and every lent byte afterwards". Assumes nothing.
 use mathlib.Core.Path.{_≡_, refl, sym, ap, _∙_}
+use mathlib.Core.Bool.{Bool}
 use mathlib.Core.List.{List}
 use Prim.Native.Nat.{ℕ}
 use lib.Dec.{eqb}
 use Rattle.laws.specs.Basics.{choose}
 use Rattle.rules.specs.Refusals.{Fault, unknown-kind, cut-short, left-over, bad-bool, bad-char, bad-utf8, Refusal, bad-setup, unsound, short-scratch, malformed, over-limit, early-label, no-such-slot, wrong-cell, no-slots, no-room, short-output, Answer, accepted, refused, told, number-of}
 use Rattle.rules.specs.Layout.{Lent}
-use Rattle.rules.specs.Calls.{Left, left, put-call, Set-up, setup, text-part, text-told, capacity-call, free-call, Stored, stored, cell-store, element-store}
+use Rattle.rules.specs.Calls.{Left, left, put-call, Set-up, setup, text-part, text-told, capacity-call, free-call, Stored, stored, cell-store, element-store, eqv-call}
 use Rattle.doors.specs.declared.SetupAnswer.{SetupAnswer}
 use Rattle.doors.specs.declared.SetupAnswer.the-variants as setups
 use Rattle.leaf_nodes.specs.declared.Fault as code
@@ -22,7 +23,9 @@ use Rattle.doors.specs.declared.TextAnswer.{TextAnswer}
 use Rattle.doors.specs.declared.TextAnswer.the-variants as texts
 use Rattle.doors.specs.declared.StoreAnswer.{StoreAnswer}
 use Rattle.doors.specs.declared.StoreAnswer.the-variants as stores
-use Rattle.doors.specs.Answers.{setup-answer, set-up, put-answer, count-answer, Used, text-answer, store-answer}
+use Rattle.doors.specs.declared.EqvAnswer.{EqvAnswer}
+use Rattle.doors.specs.declared.EqvAnswer.the-variants as eqvs
+use Rattle.doors.specs.Answers.{setup-answer, set-up, put-answer, count-answer, Used, text-answer, store-answer, eqv-answer}
 
 -- ---- each answer of the rules comes from one answer of the code
 
@@ -188,3 +191,35 @@ cell-store-determined l s kind a b = stored-determined (cell-store l s kind a b)
 
 pub element-store-determined : (l : Lent) (s k kind a : ℕ) (r r' : StoreAnswer) (after after' : Lent) → stored (store-answer r) after ≡ element-store l s k kind a → stored (store-answer r') after' ≡ element-store l s k kind a → (r ≡ r') × (after ≡ after')
 element-store-determined l s k kind a = stored-determined (element-store l s k kind a)
+
+-- ---- eqv
+
+-- of the refusals that `eqv` does not give none is asked for
+refused-eqv : Refusal → EqvAnswer
+unfolding from-fault
+refused-eqv bad-setup = eqvs.Unsound
+refused-eqv unsound = eqvs.Unsound
+refused-eqv short-scratch = eqvs.Unsound
+refused-eqv (malformed f n) = eqvs.Malformed (from-fault f)
+refused-eqv over-limit = eqvs.Unsound
+refused-eqv early-label = eqvs.Unsound
+refused-eqv no-such-slot = eqvs.NoSuchSlot
+refused-eqv wrong-cell = eqvs.Unsound
+refused-eqv no-slots = eqvs.Unsound
+refused-eqv no-room = eqvs.Unsound
+refused-eqv short-output = eqvs.Unsound
+
+from-eqv : Answer Bool → EqvAnswer
+unfolding refused-eqv
+from-eqv (accepted b) = eqvs.Truth b
+from-eqv (refused r) = refused-eqv r
+
+eqv-back : (r : EqvAnswer) → from-eqv (eqv-answer r) ≡ r
+unfolding from-eqv
+eqv-back (eqvs.Truth b) = refl
+eqv-back eqvs.Unsound = refl
+eqv-back (eqvs.Malformed f) = ap eqvs.Malformed (fault-back f)
+eqv-back eqvs.NoSuchSlot = refl
+
+pub eqv-determined : (l : Lent) (kind a kind′ a′ : ℕ) (r r' : EqvAnswer) → eqv-answer r ≡ eqv-call l kind a kind′ a′ → eqv-answer r' ≡ eqv-call l kind a kind′ a′ → r ≡ r'
+eqv-determined l kind a kind′ a′ r r' one two = sym (eqv-back r) ∙ ap from-eqv (one ∙ sym two) ∙ eqv-back r'

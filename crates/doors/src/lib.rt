@@ -9,13 +9,13 @@ ghost use Prim.Native.Nat.{ℕ};
 ghost use Rattle.rules.specs.Numbers.{scratch-words};
 ghost use Rattle.rules.specs.Refusals.{accepted, told};
 ghost use Rattle.rules.specs.Sound.{sound};
-ghost use Rattle.rules.specs.Calls.{left, put-call, setup, text-in, text-call, text-part, text-told, capacity-call, free-call, given-value, given-cell, stored, cell-store, element-store};
+ghost use Rattle.rules.specs.Calls.{left, put-call, setup, text-in, text-call, text-part, text-told, capacity-call, free-call, given-value, given-cell, stored, cell-store, element-store, eqv-call};
 ghost use Rattle.leaf_cells.specs.Cells.{cell-of};
 ghost use Rattle.leaf_cells.specs.Elements.{value-of};
 ghost use Rattle.heap_sound_rows.specs.Rows.{lists};
 ghost use Rattle.heap_put_whole.specs.Whole.{answer-of};
 ghost use Rattle.heap_store.specs.Stores.{store-told};
-ghost use Rattle.doors.specs.Answers.{set-up, put-answer, count-answer, Used, text-answer, block-answer, store-answer};
+ghost use Rattle.doors.specs.Answers.{set-up, put-answer, count-answer, Used, text-answer, block-answer, store-answer, eqv-answer};
 
 // Setup's answer: the heap is fresh, or 10.
 pub enum SetupAnswer {
@@ -312,5 +312,78 @@ pub fn element_store(
             new,
         ),
         heap_given::ValueAnswer::Malformed(f) => StoreAnswer::Malformed(f),
+    }
+}
+
+// What `eqv` answers: whether the two are alike, or 20, 11 with what is wrong, or 14.
+pub enum EqvAnswer {
+    Truth(bool),
+    Unsound,
+    Malformed(leaf_nodes::Fault),
+    NoSuchSlot,
+}
+
+// Two values that were given, whatever kinds and fields gave them: 14.
+fn eqv_values(
+    words: &[u64],
+    map: &[u8],
+    bytes: &[u8],
+    elems: &[u64],
+    v: leaf_cells::Value,
+    w: leaf_cells::Value,
+) -> EqvAnswer
+    requires { ⌜ sound (lists (now words) (now map) (now bytes) (now elems)) ≡ true ⌝ }
+    ensures { λ r. ⌜ ((kind a kind′ a′ : ℕ) → accepted (value-of v) ≡ given-value kind a → accepted (value-of w) ≡ given-value kind′ a′ → eqv-answer r ≡ eqv-call (lists (now (words .entry)) (now (map .entry)) (now (bytes .entry)) (now (elems .entry))) kind a kind′ a′) ⌝ }
+{
+    let capacity = words[1] as usize;
+    if !heap_given::value_in_use(map, capacity, v) {
+        return EqvAnswer::NoSuchSlot;
+    }
+    if !heap_given::value_in_use(map, capacity, w) {
+        return EqvAnswer::NoSuchSlot;
+    }
+    EqvAnswer::Truth(heap_eqv::eqv(words, map, bytes, elems, v, w))
+}
+
+// A first value that was given, and a second to be looked at: 11, 14.
+fn eqv_second(
+    words: &[u64],
+    map: &[u8],
+    bytes: &[u8],
+    elems: &[u64],
+    v: leaf_cells::Value,
+    kind: u64,
+    a: u64,
+) -> EqvAnswer
+    requires { ⌜ sound (lists (now words) (now map) (now bytes) (now elems)) ≡ true ⌝ }
+    ensures { λ r. ⌜ ((first b : ℕ) → accepted (value-of v) ≡ given-value first b → eqv-answer r ≡ eqv-call (lists (now (words .entry)) (now (map .entry)) (now (bytes .entry)) (now (elems .entry))) first b kind a) ⌝ }
+{
+    let given = heap_given::given_value(kind, a);
+    match given {
+        heap_given::ValueAnswer::Given(w) => eqv_values(words, map, bytes, elems, v, w),
+        heap_given::ValueAnswer::Malformed(f) => EqvAnswer::Malformed(f),
+    }
+}
+
+// Whether two values are `eqv`. It takes no scratch.
+pub fn eqv(
+    words: &[u64],
+    map: &[u8],
+    bytes: &[u8],
+    elems: &[u64],
+    kind: u64,
+    a: u64,
+    kind2: u64,
+    a2: u64,
+) -> EqvAnswer
+    ensures { λ r. ⌜ eqv-answer r ≡ eqv-call (lists (now (words .entry)) (now (map .entry)) (now (bytes .entry)) (now (elems .entry))) kind a kind2 a2 ⌝ }
+{
+    if !heap_sound::is_sound(words, map, bytes, elems) {
+        return EqvAnswer::Unsound;
+    }
+    let first = heap_given::given_value(kind, a);
+    match first {
+        heap_given::ValueAnswer::Given(v) => eqv_second(words, map, bytes, elems, v, kind2, a2),
+        heap_given::ValueAnswer::Malformed(f) => EqvAnswer::Malformed(f),
     }
 }
