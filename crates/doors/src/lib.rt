@@ -5,17 +5,17 @@ ghost use mathlib.Core.Path.{_≡_};
 ghost use mathlib.Core.Bool.{true};
 ghost use lib.Dec.{ltb};
 ghost use lib.ListN.{length, getD};
-ghost use Prim.Native.Nat.{ℕ};
 ghost use Rattle.rules.specs.Numbers.{scratch-words};
-ghost use Rattle.rules.specs.Refusals.{accepted, told};
+ghost use Rattle.rules.specs.Refusals.{told};
 ghost use Rattle.rules.specs.Sound.{sound};
-ghost use Rattle.rules.specs.Calls.{left, put-call, setup, text-in, text-call, text-part, text-told, capacity-call, free-call, given-value, given-cell, stored, cell-store, element-store, eqv-call};
+ghost use Rattle.rules.specs.Calls.{left, put-call, setup, text-in, text-call, text-part, text-told, capacity-call, free-call, stored, cell-store, element-store, eqv-call};
 ghost use Rattle.leaf_cells.specs.Cells.{cell-of};
 ghost use Rattle.leaf_cells.specs.Elements.{value-of};
 ghost use Rattle.heap_sound_rows.specs.Rows.{lists};
 ghost use Rattle.heap_put_whole.specs.Whole.{answer-of};
 ghost use Rattle.heap_store.specs.Stores.{store-told};
 ghost use Rattle.doors.specs.Answers.{set-up, put-answer, count-answer, Used, text-answer, block-answer, store-answer, eqv-answer};
+ghost use Rattle.doors.specs.Behind.{cell-behind, element-behind, eqv-behind, second-behind};
 
 // Setup's answer: the heap is fresh, or 10.
 pub enum SetupAnswer {
@@ -216,7 +216,7 @@ fn store_answer(a: heap_store::StoreAnswer) -> StoreAnswer
     }
 }
 
-// A cell that was given is stored, whatever kind and fields gave it: 14, 15.
+// A cell store behind 20 and 11: 14, 15.
 fn store_cell(
     words: &mut [u64],
     map: &[u8],
@@ -226,7 +226,7 @@ fn store_cell(
     new: leaf_cells::VCell,
 ) -> StoreAnswer
     requires { ⌜ sound (lists (now words) (now map) (now bytes) (now elems)) ≡ true ⌝ }
-    ensures { λ r. ⌜ ((kind a b : ℕ) → accepted (cell-of new) ≡ given-cell kind a b → stored (store-answer r) (lists (now (words .exit)) (now (map .entry)) (now (bytes .entry)) (now (elems .entry))) ≡ cell-store (lists (now (words .entry)) (now (map .entry)) (now (bytes .entry)) (now (elems .entry))) slot kind a b) ⌝ }
+    ensures { λ r. ⌜ stored (store-answer r) (lists (now (words .exit)) (now (map .entry)) (now (bytes .entry)) (now (elems .entry))) ≡ cell-behind (lists (now (words .entry)) (now (map .entry)) (now (bytes .entry)) (now (elems .entry))) slot (cell-of new) ⌝ }
 {
     let capacity = words[1] as usize;
     if !heap_sound_cells::in_use(map, capacity, slot) {
@@ -261,7 +261,7 @@ pub fn cell_store(
     }
 }
 
-// A value that was given is stored, whatever kind and field gave it: 14, 15.
+// An element store behind 20 and 11: 14, 15.
 fn store_element(
     words: &[u64],
     map: &[u8],
@@ -272,7 +272,7 @@ fn store_element(
     new: leaf_cells::Value,
 ) -> StoreAnswer
     requires { ⌜ sound (lists (now words) (now map) (now bytes) (now elems)) ≡ true ⌝ }
-    ensures { λ r. ⌜ ((kind a : ℕ) → accepted (value-of new) ≡ given-value kind a → stored (store-answer r) (lists (now (words .entry)) (now (map .entry)) (now (bytes .entry)) (now (elems .exit))) ≡ element-store (lists (now (words .entry)) (now (map .entry)) (now (bytes .entry)) (now (elems .entry))) slot k kind a) ⌝ }
+    ensures { λ r. ⌜ stored (store-answer r) (lists (now (words .entry)) (now (map .entry)) (now (bytes .entry)) (now (elems .exit))) ≡ element-behind (lists (now (words .entry)) (now (map .entry)) (now (bytes .entry)) (now (elems .entry))) slot k (value-of new) ⌝ }
 {
     let capacity = words[1] as usize;
     if !heap_sound_cells::in_use(map, capacity, slot) {
@@ -323,7 +323,7 @@ pub enum EqvAnswer {
     NoSuchSlot,
 }
 
-// Two values that were given, whatever kinds and fields gave them: 14.
+// `eqv` of two values that were given: 14.
 fn eqv_values(
     words: &[u64],
     map: &[u8],
@@ -333,7 +333,7 @@ fn eqv_values(
     w: leaf_cells::Value,
 ) -> EqvAnswer
     requires { ⌜ sound (lists (now words) (now map) (now bytes) (now elems)) ≡ true ⌝ }
-    ensures { λ r. ⌜ ((kind a kind′ a′ : ℕ) → accepted (value-of v) ≡ given-value kind a → accepted (value-of w) ≡ given-value kind′ a′ → eqv-answer r ≡ eqv-call (lists (now (words .entry)) (now (map .entry)) (now (bytes .entry)) (now (elems .entry))) kind a kind′ a′) ⌝ }
+    ensures { λ r. ⌜ eqv-answer r ≡ eqv-behind (lists (now (words .entry)) (now (map .entry)) (now (bytes .entry)) (now (elems .entry))) (value-of v) (value-of w) ⌝ }
 {
     let capacity = words[1] as usize;
     if !heap_given::value_in_use(map, capacity, v) {
@@ -345,7 +345,7 @@ fn eqv_values(
     EqvAnswer::Truth(heap_eqv::eqv(words, map, bytes, elems, v, w))
 }
 
-// A first value that was given, and a second to be looked at: 11, 14.
+// `eqv` of a value that was given and one still to be tested: 11, 14.
 fn eqv_second(
     words: &[u64],
     map: &[u8],
@@ -356,7 +356,7 @@ fn eqv_second(
     a: u64,
 ) -> EqvAnswer
     requires { ⌜ sound (lists (now words) (now map) (now bytes) (now elems)) ≡ true ⌝ }
-    ensures { λ r. ⌜ ((first b : ℕ) → accepted (value-of v) ≡ given-value first b → eqv-answer r ≡ eqv-call (lists (now (words .entry)) (now (map .entry)) (now (bytes .entry)) (now (elems .entry))) first b kind a) ⌝ }
+    ensures { λ r. ⌜ eqv-answer r ≡ second-behind (lists (now (words .entry)) (now (map .entry)) (now (bytes .entry)) (now (elems .entry))) (value-of v) kind a ⌝ }
 {
     let given = heap_given::given_value(kind, a);
     match given {

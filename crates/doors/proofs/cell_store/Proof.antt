@@ -3,7 +3,7 @@ use mathlib.Core.Path.{refl, sym, ap, _∙_}
 use borrow.Author.Tests.{not-true, not-false}
 use Rattle.heap_sound_rows.specs.Rows.{lists}
 use Rattle.heap_given.specs.Given.{cell-answer}
-use Rattle.doors.proofs.StoreLaws.{cell-unsound, cell-malformed}
+use Rattle.doors.proofs.StoreLaws.{cell-unsound, cell-malformed, cell-accepted}
 use borrow.Author.Needs.{needs}
 use Rattle.doors.proofs.cell_store.Statement.{statement}
 use Rattle.doors.proofs.cell_store.Tie as tie
@@ -33,7 +33,7 @@ same-length-2 : tie.Need-same-length-2
 same-length-2 c = c .before .before .store-cell .kept .0
 
 returns-2 : tie.Need-returns-2
-returns-2 c = c .before .before .store-cell .ensures (c .before .before .before .before .before .before .before .before .before .before .before .before .before .before .before .args .kind) (c .before .before .before .before .before .before .before .before .before .before .before .before .before .before .before .args .a) (c .before .before .before .before .before .before .before .before .before .before .before .before .before .before .before .args .b) (ap cell-answer (sym (c .before .before .before .before .before .given .given .1)) ∙ c .before .before .before .before .before .before .before .given-cell .ensures)
+returns-2 c = c .before .before .store-cell .ensures ∙ cell-accepted (lists (c .before .before .before .before .before .before .before .before .before .before .before .before .before .before .before .args .words .now) (c .before .before .before .before .before .before .before .before .before .before .before .before .before .before .before .args .map .now) (c .before .before .before .before .before .before .before .before .before .before .before .before .before .before .before .args .bytes .now) (c .before .before .before .before .before .before .before .before .before .before .before .before .before .before .before .args .elems .now)) (c .before .before .before .before .before .before .before .before .before .before .before .before .before .before .before .args .slot) (c .before .before .before .before .before .before .before .before .before .before .before .before .before .before .before .args .kind) (c .before .before .before .before .before .before .before .before .before .before .before .before .before .before .before .args .a) (c .before .before .before .before .before .before .before .before .before .before .before .before .before .before .before .args .b) (sym (c .before .before .before .before .before .before .before .before .before .is-sound .ensures) ∙ not-false _ (c .before .before .before .before .before .before .before .before .if1 .left)) _ (ap cell-answer (sym (c .before .before .before .before .before .given .given .1)) ∙ c .before .before .before .before .before .before .before .given-cell .ensures)
 
 same-length-3 : tie.Need-same-length-3
 same-length-3 c = refl

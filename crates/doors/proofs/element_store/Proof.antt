@@ -3,7 +3,7 @@ use mathlib.Core.Path.{refl, sym, ap, _∙_}
 use borrow.Author.Tests.{not-true, not-false}
 use Rattle.heap_sound_rows.specs.Rows.{lists}
 use Rattle.heap_given.specs.Given.{value-answer}
-use Rattle.doors.proofs.StoreLaws.{element-unsound, element-malformed}
+use Rattle.doors.proofs.StoreLaws.{element-unsound, element-malformed, element-accepted}
 use borrow.Author.Needs.{needs}
 use Rattle.doors.proofs.element_store.Statement.{statement}
 use Rattle.doors.proofs.element_store.Tie as tie
@@ -33,7 +33,7 @@ same-length-2 : tie.Need-same-length-2
 same-length-2 c = c .before .before .store-element .kept .1 .1 .1 .0
 
 returns-2 : tie.Need-returns-2
-returns-2 c = c .before .before .store-element .ensures (c .before .before .before .before .before .before .before .before .before .before .before .before .before .before .before .args .kind) (c .before .before .before .before .before .before .before .before .before .before .before .before .before .before .before .args .a) (ap value-answer (sym (c .before .before .before .before .before .given .given .1)) ∙ c .before .before .before .before .before .before .before .given-value .ensures)
+returns-2 c = c .before .before .store-element .ensures ∙ element-accepted (lists (c .before .before .before .before .before .before .before .before .before .before .before .before .before .before .before .args .words .now) (c .before .before .before .before .before .before .before .before .before .before .before .before .before .before .before .args .map .now) (c .before .before .before .before .before .before .before .before .before .before .before .before .before .before .before .args .bytes .now) (c .before .before .before .before .before .before .before .before .before .before .before .before .before .before .before .args .elems .now)) (c .before .before .before .before .before .before .before .before .before .before .before .before .before .before .before .args .slot) (c .before .before .before .before .before .before .before .before .before .before .before .before .before .before .before .args .k) (c .before .before .before .before .before .before .before .before .before .before .before .before .before .before .before .args .kind) (c .before .before .before .before .before .before .before .before .before .before .before .before .before .before .before .args .a) (sym (c .before .before .before .before .before .before .before .before .before .is-sound .ensures) ∙ not-false _ (c .before .before .before .before .before .before .before .before .if1 .left)) _ (ap value-answer (sym (c .before .before .before .before .before .given .given .1)) ∙ c .before .before .before .before .before .before .before .given-value .ensures)
 
 same-length-3 : tie.Need-same-length-3
 same-length-3 c = refl

@@ -17,19 +17,19 @@ value-in-use-requires : tie.Need-value-in-use-requires
 value-in-use-requires c κs = search needs
 
 returns : tie.Need-returns
-returns c = λ kind a kind′ a′ given given′. first-free (lists (c .before .before .before .before .before .before .before .args .words .now) (c .before .before .before .before .before .before .before .args .map .now) (c .before .before .before .before .before .before .before .args .bytes .now) (c .before .before .before .before .before .before .before .args .elems .now)) kind a kind′ a′ (c .before .before .before .before .before .before .before .pre) (value-of (c .before .before .before .before .before .before .before .args .v)) given (value-of (c .before .before .before .before .before .before .before .args .w)) given′ (sym (c .before .value-in-use .ensures) ∙ not-true _ (c .if1 .taken))
+returns c = first-free (lists (c .before .before .before .before .before .before .before .args .words .now) (c .before .before .before .before .before .before .before .args .map .now) (c .before .before .before .before .before .before .before .args .bytes .now) (c .before .before .before .before .before .before .before .args .elems .now)) (c .before .before .before .before .before .before .before .pre) (value-of (c .before .before .before .before .before .before .before .args .v)) (value-of (c .before .before .before .before .before .before .before .args .w)) (sym (c .before .value-in-use .ensures) ∙ not-true _ (c .if1 .taken))
 
 value-in-use-requires-2 : tie.Need-value-in-use-requires-2
 value-in-use-requires-2 c κs = search needs
 
 returns-2 : tie.Need-returns-2
-returns-2 c = λ kind a kind′ a′ given given′. second-free (lists (c .before .before .before .before .before .before .before .before .before .args .words .now) (c .before .before .before .before .before .before .before .before .before .args .map .now) (c .before .before .before .before .before .before .before .before .before .args .bytes .now) (c .before .before .before .before .before .before .before .before .before .args .elems .now)) kind a kind′ a′ (c .before .before .before .before .before .before .before .before .before .pre) (value-of (c .before .before .before .before .before .before .before .before .before .args .v)) given (value-of (c .before .before .before .before .before .before .before .before .before .args .w)) given′ (sym (c .before .before .before .value-in-use .ensures) ∙ not-false _ (c .before .before .if1 .left)) (sym (c .before .value-in-use2 .ensures) ∙ not-true _ (c .if2 .taken))
+returns-2 c = second-free (lists (c .before .before .before .before .before .before .before .before .before .args .words .now) (c .before .before .before .before .before .before .before .before .before .args .map .now) (c .before .before .before .before .before .before .before .before .before .args .bytes .now) (c .before .before .before .before .before .before .before .before .before .args .elems .now)) (c .before .before .before .before .before .before .before .before .before .pre) (value-of (c .before .before .before .before .before .before .before .before .before .args .v)) (value-of (c .before .before .before .before .before .before .before .before .before .args .w)) (sym (c .before .before .before .value-in-use .ensures) ∙ not-false _ (c .before .before .if1 .left)) (sym (c .before .value-in-use2 .ensures) ∙ not-true _ (c .if2 .taken))
 
 eqv-requires : tie.Need-eqv-requires
 eqv-requires c κs = comparable (lists (c .before .before .before .before .before .before .before .before .before .args .words .now) (c .before .before .before .before .before .before .before .before .before .args .map .now) (c .before .before .before .before .before .before .before .before .before .args .bytes .now) (c .before .before .before .before .before .before .before .before .before .args .elems .now)) (c .before .before .before .before .before .before .before .before .before .pre) (value-of (c .before .before .before .before .before .before .before .before .before .args .v)) (value-of (c .before .before .before .before .before .before .before .before .before .args .w)) (sym (c .before .before .before .value-in-use .ensures) ∙ not-false _ (c .before .before .if1 .left)) (sym (c .before .value-in-use2 .ensures) ∙ not-false _ (c .if2 .left))
 
 returns-3 : tie.Need-returns-3
-returns-3 c = λ kind a kind′ a′ given given′. compared (lists (c .before .before .before .before .before .before .before .before .before .before .args .words .now) (c .before .before .before .before .before .before .before .before .before .before .args .map .now) (c .before .before .before .before .before .before .before .before .before .before .args .bytes .now) (c .before .before .before .before .before .before .before .before .before .before .args .elems .now)) kind a kind′ a′ (c .before .before .before .before .before .before .before .before .before .before .pre) (value-of (c .before .before .before .before .before .before .before .before .before .before .args .v)) given (value-of (c .before .before .before .before .before .before .before .before .before .before .args .w)) given′ (sym (c .before .before .before .before .value-in-use .ensures) ∙ not-false _ (c .before .before .before .if1 .left)) (sym (c .before .before .value-in-use2 .ensures) ∙ not-false _ (c .before .if2 .left)) _ (c .eqv .ensures)
+returns-3 c = compared (lists (c .before .before .before .before .before .before .before .before .before .before .args .words .now) (c .before .before .before .before .before .before .before .before .before .before .args .map .now) (c .before .before .before .before .before .before .before .before .before .before .args .bytes .now) (c .before .before .before .before .before .before .before .before .before .before .args .elems .now)) (c .before .before .before .before .before .before .before .before .before .before .pre) (value-of (c .before .before .before .before .before .before .before .before .before .before .args .v)) (value-of (c .before .before .before .before .before .before .before .before .before .before .args .w)) (sym (c .before .before .before .before .value-in-use .ensures) ∙ not-false _ (c .before .before .before .if1 .left)) (sym (c .before .before .value-in-use2 .ensures) ∙ not-false _ (c .before .if2 .left)) _ (c .eqv .ensures)
 
 pub eqv-values-spec : {M : Type 1} → statement M
 eqv-values-spec =

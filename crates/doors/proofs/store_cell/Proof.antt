@@ -17,13 +17,13 @@ in-use-requires : tie.Need-in-use-requires
 in-use-requires c κs = search needs
 
 returns : tie.Need-returns
-returns c = λ kind a b given. cell-slot-free (lists (c .before .before .before .before .before .before .before .args .words .now) (c .before .before .before .before .before .before .before .args .map .now) (c .before .before .before .before .before .before .before .args .bytes .now) (c .before .before .before .before .before .before .before .args .elems .now)) (c .before .before .before .before .before .before .before .args .slot) kind a b (c .before .before .before .before .before .before .before .pre) (cell-of (c .before .before .before .before .before .before .before .args .new)) given (sym (c .before .in-use .ensures) ∙ not-true _ (c .if1 .taken))
+returns c = cell-slot-free (lists (c .before .before .before .before .before .before .before .args .words .now) (c .before .before .before .before .before .before .before .args .map .now) (c .before .before .before .before .before .before .before .args .bytes .now) (c .before .before .before .before .before .before .before .args .elems .now)) (c .before .before .before .before .before .before .before .args .slot) (c .before .before .before .before .before .before .before .pre) (cell-of (c .before .before .before .before .before .before .before .args .new)) (sym (c .before .in-use .ensures) ∙ not-true _ (c .if1 .taken))
 
 cell-in-use-requires : tie.Need-cell-in-use-requires
 cell-in-use-requires c κs = search needs
 
 returns-2 : tie.Need-returns-2
-returns-2 c = λ kind a b given. cell-names-free (lists (c .before .before .before .before .before .before .before .before .before .args .words .now) (c .before .before .before .before .before .before .before .before .before .args .map .now) (c .before .before .before .before .before .before .before .before .before .args .bytes .now) (c .before .before .before .before .before .before .before .before .before .args .elems .now)) (c .before .before .before .before .before .before .before .before .before .args .slot) kind a b (c .before .before .before .before .before .before .before .before .before .pre) (cell-of (c .before .before .before .before .before .before .before .before .before .args .new)) given (sym (c .before .before .before .in-use .ensures) ∙ not-false _ (c .before .before .if1 .left)) (sym (c .before .cell-in-use .ensures) ∙ not-true _ (c .if2 .taken))
+returns-2 c = cell-names-free (lists (c .before .before .before .before .before .before .before .before .before .args .words .now) (c .before .before .before .before .before .before .before .before .before .args .map .now) (c .before .before .before .before .before .before .before .before .before .args .bytes .now) (c .before .before .before .before .before .before .before .before .before .args .elems .now)) (c .before .before .before .before .before .before .before .before .before .args .slot) (c .before .before .before .before .before .before .before .before .before .pre) (cell-of (c .before .before .before .before .before .before .before .before .before .args .new)) (sym (c .before .before .before .in-use .ensures) ∙ not-false _ (c .before .before .if1 .left)) (sym (c .before .cell-in-use .ensures) ∙ not-true _ (c .if2 .taken))
 
 cell-store-requires : tie.Need-cell-store-requires
 cell-store-requires c κs = ready (lists (c .before .before .before .before .before .before .before .before .before .before .args .words .now) (c .before .before .before .before .before .before .before .before .before .before .args .map .now) (c .before .before .before .before .before .before .before .before .before .before .args .bytes .now) (c .before .before .before .before .before .before .before .before .before .before .args .elems .now)) (c .before .before .before .before .before .before .before .before .before .before .args .slot) (c .before .before .before .before .before .before .before .before .before .before .pre) (sym (c .before .before .before .before .in-use .ensures) ∙ not-false _ (c .before .before .before .if1 .left))
@@ -35,7 +35,7 @@ same-length : tie.Need-same-length
 same-length c = c .before .before .before .cell-store .kept .0
 
 returns-3 : tie.Need-returns-3
-returns-3 c = λ kind a b given. cell-passed (lists (c .before .before .before .before .before .before .before .before .before .before .before .before .before .before .args .words .now) (c .before .before .before .before .before .before .before .before .before .before .before .before .before .before .args .map .now) (c .before .before .before .before .before .before .before .before .before .before .before .before .before .before .args .bytes .now) (c .before .before .before .before .before .before .before .before .before .before .before .before .before .before .args .elems .now)) (c .before .before .before .before .before .before .before .before .before .before .before .before .before .before .args .slot) kind a b (c .before .before .before .before .before .before .before .before .before .before .before .before .before .before .pre) (cell-of (c .before .before .before .before .before .before .before .before .before .before .before .before .before .before .args .new)) given (sym (c .before .before .before .before .before .before .before .before .in-use .ensures) ∙ not-false _ (c .before .before .before .before .before .before .before .if1 .left)) (sym (c .before .before .before .before .before .before .cell-in-use .ensures) ∙ not-false _ (c .before .before .before .before .before .if2 .left)) _ _ _ (c .store-answer .ensures) (c .before .before .before .cell-store .ensures)
+returns-3 c = cell-passed (lists (c .before .before .before .before .before .before .before .before .before .before .before .before .before .before .args .words .now) (c .before .before .before .before .before .before .before .before .before .before .before .before .before .before .args .map .now) (c .before .before .before .before .before .before .before .before .before .before .before .before .before .before .args .bytes .now) (c .before .before .before .before .before .before .before .before .before .before .before .before .before .before .args .elems .now)) (c .before .before .before .before .before .before .before .before .before .before .before .before .before .before .args .slot) (c .before .before .before .before .before .before .before .before .before .before .before .before .before .before .pre) (cell-of (c .before .before .before .before .before .before .before .before .before .before .before .before .before .before .args .new)) (sym (c .before .before .before .before .before .before .before .before .in-use .ensures) ∙ not-false _ (c .before .before .before .before .before .before .before .if1 .left)) (sym (c .before .before .before .before .before .before .cell-in-use .ensures) ∙ not-false _ (c .before .before .before .before .before .if2 .left)) _ _ _ (c .store-answer .ensures) (c .before .before .before .cell-store .ensures)
 
 pub store-cell-spec : {M : Type 1} → statement M
 store-cell-spec =

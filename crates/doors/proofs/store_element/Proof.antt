@@ -17,13 +17,13 @@ in-use-requires : tie.Need-in-use-requires
 in-use-requires c κs = search needs
 
 returns : tie.Need-returns
-returns c = λ kind a given. element-slot-free (lists (c .before .before .before .before .before .before .before .args .words .now) (c .before .before .before .before .before .before .before .args .map .now) (c .before .before .before .before .before .before .before .args .bytes .now) (c .before .before .before .before .before .before .before .args .elems .now)) (c .before .before .before .before .before .before .before .args .slot) (c .before .before .before .before .before .before .before .args .k) kind a (c .before .before .before .before .before .before .before .pre) (value-of (c .before .before .before .before .before .before .before .args .new)) given (sym (c .before .in-use .ensures) ∙ not-true _ (c .if1 .taken))
+returns c = element-slot-free (lists (c .before .before .before .before .before .before .before .args .words .now) (c .before .before .before .before .before .before .before .args .map .now) (c .before .before .before .before .before .before .before .args .bytes .now) (c .before .before .before .before .before .before .before .args .elems .now)) (c .before .before .before .before .before .before .before .args .slot) (c .before .before .before .before .before .before .before .pre) (c .before .before .before .before .before .before .before .args .k) (value-of (c .before .before .before .before .before .before .before .args .new)) (sym (c .before .in-use .ensures) ∙ not-true _ (c .if1 .taken))
 
 value-in-use-requires : tie.Need-value-in-use-requires
 value-in-use-requires c κs = search needs
 
 returns-2 : tie.Need-returns-2
-returns-2 c = λ kind a given. element-name-free (lists (c .before .before .before .before .before .before .before .before .before .args .words .now) (c .before .before .before .before .before .before .before .before .before .args .map .now) (c .before .before .before .before .before .before .before .before .before .args .bytes .now) (c .before .before .before .before .before .before .before .before .before .args .elems .now)) (c .before .before .before .before .before .before .before .before .before .args .slot) (c .before .before .before .before .before .before .before .before .before .args .k) kind a (c .before .before .before .before .before .before .before .before .before .pre) (value-of (c .before .before .before .before .before .before .before .before .before .args .new)) given (sym (c .before .before .before .in-use .ensures) ∙ not-false _ (c .before .before .if1 .left)) (sym (c .before .value-in-use .ensures) ∙ not-true _ (c .if2 .taken))
+returns-2 c = element-name-free (lists (c .before .before .before .before .before .before .before .before .before .args .words .now) (c .before .before .before .before .before .before .before .before .before .args .map .now) (c .before .before .before .before .before .before .before .before .before .args .bytes .now) (c .before .before .before .before .before .before .before .before .before .args .elems .now)) (c .before .before .before .before .before .before .before .before .before .args .slot) (c .before .before .before .before .before .before .before .before .before .pre) (c .before .before .before .before .before .before .before .before .before .args .k) (value-of (c .before .before .before .before .before .before .before .before .before .args .new)) (sym (c .before .before .before .in-use .ensures) ∙ not-false _ (c .before .before .if1 .left)) (sym (c .before .value-in-use .ensures) ∙ not-true _ (c .if2 .taken))
 
 element-store-requires : tie.Need-element-store-requires
 element-store-requires c κs = ready (lists (c .before .before .before .before .before .before .before .before .before .before .args .words .now) (c .before .before .before .before .before .before .before .before .before .before .args .map .now) (c .before .before .before .before .before .before .before .before .before .before .args .bytes .now) (c .before .before .before .before .before .before .before .before .before .before .args .elems .now)) (c .before .before .before .before .before .before .before .before .before .before .args .slot) (c .before .before .before .before .before .before .before .before .before .before .pre) (sym (c .before .before .before .before .in-use .ensures) ∙ not-false _ (c .before .before .before .if1 .left))
@@ -35,7 +35,7 @@ same-length : tie.Need-same-length
 same-length c = c .before .before .before .element-store .kept .1 .1 .1 .0
 
 returns-3 : tie.Need-returns-3
-returns-3 c = λ kind a given. element-passed (lists (c .before .before .before .before .before .before .before .before .before .before .before .before .before .before .args .words .now) (c .before .before .before .before .before .before .before .before .before .before .before .before .before .before .args .map .now) (c .before .before .before .before .before .before .before .before .before .before .before .before .before .before .args .bytes .now) (c .before .before .before .before .before .before .before .before .before .before .before .before .before .before .args .elems .now)) (c .before .before .before .before .before .before .before .before .before .before .before .before .before .before .args .slot) (c .before .before .before .before .before .before .before .before .before .before .before .before .before .before .args .k) kind a (c .before .before .before .before .before .before .before .before .before .before .before .before .before .before .pre) (value-of (c .before .before .before .before .before .before .before .before .before .before .before .before .before .before .args .new)) given (sym (c .before .before .before .before .before .before .before .before .in-use .ensures) ∙ not-false _ (c .before .before .before .before .before .before .before .if1 .left)) (sym (c .before .before .before .before .before .before .value-in-use .ensures) ∙ not-false _ (c .before .before .before .before .before .if2 .left)) _ _ _ (c .store-answer .ensures) (c .before .before .before .element-store .ensures)
+returns-3 c = element-passed (lists (c .before .before .before .before .before .before .before .before .before .before .before .before .before .before .args .words .now) (c .before .before .before .before .before .before .before .before .before .before .before .before .before .before .args .map .now) (c .before .before .before .before .before .before .before .before .before .before .before .before .before .before .args .bytes .now) (c .before .before .before .before .before .before .before .before .before .before .before .before .before .before .args .elems .now)) (c .before .before .before .before .before .before .before .before .before .before .before .before .before .before .args .slot) (c .before .before .before .before .before .before .before .before .before .before .before .before .before .before .pre) (c .before .before .before .before .before .before .before .before .before .before .before .before .before .before .args .k) (value-of (c .before .before .before .before .before .before .before .before .before .before .before .before .before .before .args .new)) (sym (c .before .before .before .before .before .before .before .before .in-use .ensures) ∙ not-false _ (c .before .before .before .before .before .before .before .if1 .left)) (sym (c .before .before .before .before .before .before .value-in-use .ensures) ∙ not-false _ (c .before .before .before .before .before .if2 .left)) _ _ _ (c .store-answer .ensures) (c .before .before .before .element-store .ensures)
 
 pub store-element-spec : {M : Type 1} → statement M
 store-element-spec =
