@@ -10,7 +10,7 @@ use Rattle.laws.specs.Basics.{choose}
 use Rattle.rules.specs.Refusals.{Fault, unknown-kind, cut-short, left-over, bad-bool, bad-char, bad-utf8, Refusal, bad-setup, unsound, short-scratch, malformed, over-limit, early-label, no-such-slot, wrong-cell, no-slots, no-room, short-output, Answer, accepted, refused, told, number-of}
 use Rattle.rules.specs.Cells.{Block}
 use Rattle.rules.specs.Layout.{Lent}
-use Rattle.rules.specs.Calls.{Left, left, put-call, Set-up, setup, text-call, text-part, text-told, capacity-call, free-call, Stored, stored, cell-store, element-store, eqv-call}
+use Rattle.rules.specs.Calls.{Left, left, put-call, collect-call, Set-up, setup, text-call, text-part, text-told, capacity-call, free-call, Stored, stored, cell-store, element-store, eqv-call}
 use Rattle.doors.specs.declared.SetupAnswer.{SetupAnswer}
 use Rattle.doors.specs.declared.SetupAnswer.the-variants as setups
 use Rattle.leaf_nodes.specs.declared.Fault as code
@@ -18,6 +18,8 @@ use Rattle.leaf_nodes.specs.declared.Fault.the-variants as faults
 use Rattle.leaf_nodes.specs.Reads.{fault-of}
 use Rattle.doors.specs.declared.PutAnswer.{PutAnswer}
 use Rattle.doors.specs.declared.PutAnswer.the-variants as puts
+use Rattle.doors.specs.declared.CollectAnswer.{CollectAnswer}
+use Rattle.doors.specs.declared.CollectAnswer.the-variants as collects
 use Rattle.doors.specs.declared.CountAnswer.{CountAnswer}
 use Rattle.doors.specs.declared.CountAnswer.the-variants as counts
 use Rattle.doors.specs.declared.TextAnswer.{TextAnswer}
@@ -28,7 +30,7 @@ use Rattle.doors.specs.declared.StoreAnswer.{StoreAnswer}
 use Rattle.doors.specs.declared.StoreAnswer.the-variants as stores
 use Rattle.doors.specs.declared.EqvAnswer.{EqvAnswer}
 use Rattle.doors.specs.declared.EqvAnswer.the-variants as eqvs
-use Rattle.doors.specs.Answers.{setup-answer, set-up, put-answer, count-answer, Used, text-answer, block-answer, store-answer, eqv-answer}
+use Rattle.doors.specs.Answers.{setup-answer, set-up, put-answer, collect-answer, count-answer, Used, text-answer, block-answer, store-answer, eqv-answer}
 
 -- ---- each answer of the rules comes from one answer of the code
 
@@ -132,6 +134,33 @@ module _ (l : Lent) (scratch datum : List ℕ) (r r' : PutAnswer) (after after' 
   pub put-determined : (r ≡ r') × (after ≡ after') × (end ≡ end')
   put-determined =
       (sym (put-back r) ∙ ap (λ (x : Left ℕ). from-put (x .answer)) same-left ∙ put-back r', ap (λ (x : Left ℕ). x .lent) same-left, ap (λ (x : Left ℕ). x .scratch) same-left)
+
+-- ---- collection
+
+-- of the refusals that a collection does not give none is asked for
+refused-collect : Refusal → CollectAnswer
+refused-collect r =
+    choose (eqb (number-of r) 20) collects.Unsound (choose (eqb (number-of r) 19) collects.ShortScratch collects.NoSuchSlot)
+
+from-collect : Answer (Unit {0}) → CollectAnswer
+unfolding refused-collect
+from-collect (accepted a) = collects.Done
+from-collect (refused r) = refused-collect r
+
+collect-back : (r : CollectAnswer) → from-collect (collect-answer r) ≡ r
+unfolding from-collect number-of
+collect-back collects.Done = refl
+collect-back collects.Unsound = refl
+collect-back collects.ShortScratch = refl
+collect-back collects.NoSuchSlot = refl
+
+module _ (l : Lent) (scratch roots : List ℕ) (r r' : CollectAnswer) (after after' : Lent) (end end' : List ℕ) (one : left (collect-answer r) after end ≡ collect-call l scratch roots) (two : left (collect-answer r') after' end' ≡ collect-call l scratch roots) where
+  same-collected : left (collect-answer r) after end ≡ left (collect-answer r') after' end'
+  same-collected = one ∙ sym two
+
+  pub collect-determined : (r ≡ r') × (after ≡ after') × (end ≡ end')
+  collect-determined =
+      (sym (collect-back r) ∙ ap (λ (x : Left (Unit {0})). from-collect (x .answer)) same-collected ∙ collect-back r', ap (λ (x : Left (Unit {0})). x .lent) same-collected, ap (λ (x : Left (Unit {0})). x .scratch) same-collected)
 
 -- ---- the counts
 

@@ -4,3 +4,4 @@ pub mod PutLaws
 pub mod StoreLaws
 pub mod EqvLaws
 pub mod Determined
+pub mod CollectLaws

@@ -13,6 +13,8 @@ use Rattle.doors.specs.declared.SetupAnswer.{SetupAnswer}
 use Rattle.doors.specs.declared.SetupAnswer.the-variants as setup
 use Rattle.doors.specs.declared.PutAnswer.{PutAnswer}
 use Rattle.doors.specs.declared.PutAnswer.the-variants as put
+use Rattle.doors.specs.declared.CollectAnswer.{CollectAnswer}
+use Rattle.doors.specs.declared.CollectAnswer.the-variants as collect
 use Rattle.doors.specs.declared.CountAnswer.{CountAnswer}
 use Rattle.doors.specs.declared.CountAnswer.the-variants as count
 use Rattle.doors.specs.declared.TextAnswer.{TextAnswer}
@@ -43,6 +45,13 @@ put-answer put.OverLimit = refused over-limit
 put-answer put.EarlyLabel = refused early-label
 put-answer put.NoSlots = refused no-slots
 put-answer put.NoRoom = refused no-room
+
+-- collection: 20, 19, 14
+abbrev pub collect-answer : CollectAnswer → Answer (Unit {0})
+collect-answer collect.Done = accepted tt
+collect-answer collect.Unsound = refused unsound
+collect-answer collect.ShortScratch = refused short-scratch
+collect-answer collect.NoSuchSlot = refused no-such-slot
 
 -- a count: 20
 abbrev pub count-answer : CountAnswer → Answer ℕ

@@ -8,13 +8,13 @@ ghost use lib.ListN.{length, getD};
 ghost use Rattle.rules.specs.Numbers.{scratch-words};
 ghost use Rattle.rules.specs.Refusals.{told};
 ghost use Rattle.rules.specs.Sound.{sound};
-ghost use Rattle.rules.specs.Calls.{left, put-call, setup, text-in, text-call, text-part, text-told, capacity-call, free-call, stored, cell-store, element-store, eqv-call};
+ghost use Rattle.rules.specs.Calls.{left, put-call, collect-call, setup, text-in, text-call, text-part, text-told, capacity-call, free-call, stored, cell-store, element-store, eqv-call};
 ghost use Rattle.leaf_cells.specs.Cells.{cell-of};
 ghost use Rattle.leaf_cells.specs.Elements.{value-of};
 ghost use Rattle.heap_sound_rows.specs.Rows.{lists};
 ghost use Rattle.heap_put_whole.specs.Whole.{answer-of};
 ghost use Rattle.heap_store.specs.Stores.{store-told};
-ghost use Rattle.doors.specs.Answers.{set-up, put-answer, count-answer, Used, text-answer, block-answer, store-answer, eqv-answer};
+ghost use Rattle.doors.specs.Answers.{set-up, put-answer, collect-answer, count-answer, Used, text-answer, block-answer, store-answer, eqv-answer};
 ghost use Rattle.doors.specs.Behind.{cell-behind, element-behind, eqv-behind, second-behind};
 
 // Setup's answer: the heap is fresh, or 10.
@@ -92,6 +92,39 @@ pub fn put(
         return PutAnswer::ShortScratch;
     }
     put_answer(heap_put_whole::put(words, map, bytes, elems, scratch, datum))
+}
+
+// What a collection answers: it is done, or 20, 19 or 14.
+pub enum CollectAnswer {
+    Done,
+    Unsound,
+    ShortScratch,
+    NoSuchSlot,
+}
+
+// Keeps what the roots reach. "A collection refuses by 14 a root that is not in use": before anything is marked.
+pub fn collect(
+    words: &mut [u64],
+    map: &mut [u8],
+    bytes: &mut [u8],
+    elems: &mut [u64],
+    scratch: &mut [u64],
+    roots: &[u64],
+) -> CollectAnswer
+    ensures { λ r. ⌜ left (collect-answer r) (lists (now (words .exit)) (now (map .exit)) (now (bytes .exit)) (now (elems .exit))) (now (scratch .exit)) ≡ collect-call (lists (now (words .entry)) (now (map .entry)) (now (bytes .entry)) (now (elems .entry))) (now (scratch .entry)) (now (roots .entry)) ⌝ }
+{
+    if !heap_sound::is_sound(words, map, bytes, elems) {
+        return CollectAnswer::Unsound;
+    }
+    if scratch_short(words, map, bytes, elems, scratch.len()) {
+        return CollectAnswer::ShortScratch;
+    }
+    if !heap_mark::roots_in_use(words, map, roots) {
+        leaf_clear::clear_words(scratch);
+        return CollectAnswer::NoSuchSlot;
+    }
+    heap_collect::collect(words, map, bytes, elems, scratch, roots);
+    CollectAnswer::Done
 }
 
 // A count's answer: the count, or 20.
