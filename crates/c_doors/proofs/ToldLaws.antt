@@ -1,14 +1,21 @@
 -- What a caller is told of an answer that is known, and what is told of equal answers. Assumes nothing.
-use mathlib.Core.Path.{_≡_, sym, ap, subst, _∙_}
+use mathlib.Core.Path.{_≡_, refl, sym, ap, subst, _∙_}
+use mathlib.Core.Bool.{Bool}
 use mathlib.Core.List.{List}
 use Prim.Native.Nat.{ℕ}
+use mir.Val.{boolByte}
+use Rattle.leaf_cells.proofs.KindLaws.{bool-word}
 use Rattle.rules.specs.Refusals.{Refusal, Answer, accepted, refused, told, number-of}
-use Rattle.rules.specs.Cells.{Block, block}
+use Rattle.rules.specs.Cells.{Block, block, bit}
 use Rattle.rules.specs.Layout.{Lent}
-use Rattle.rules.specs.Calls.{Left, left, Set-up}
-use Rattle.doors.specs.Answers.{setup-answer, set-up}
+use Rattle.rules.specs.Calls.{Left, left, Set-up, Stored, stored}
+use Rattle.doors.specs.Answers.{setup-answer, set-up, collect-answer, store-answer}
+use Rattle.doors.specs.declared.CollectAnswer.{CollectAnswer}
+use Rattle.doors.specs.declared.CollectAnswer.the-variants as collects
+use Rattle.doors.specs.declared.StoreAnswer.{StoreAnswer}
+use Rattle.doors.specs.declared.StoreAnswer.the-variants as stores
 use Rattle.doors.specs.declared.SetupAnswer.{SetupAnswer}
-use Rattle.c_doors.specs.Told.{given, Told, ToldBlock, ToldSetup, ToldPut}
+use Rattle.c_doors.specs.Told.{given, Told, ToldBlock, ToldSetup, ToldPut, ToldCollect, ToldStore, ToldTruth}
 
 -- ---- one number
 
@@ -64,3 +71,58 @@ told-put x a stood r after end n e t =
       lent-is = ap (λ (y : Left ℕ). y .lent) e;
       scratch-is = ap (λ (y : Left ℕ). y .scratch) e;
     }
+
+-- ---- the collection, the stores and eqv
+
+abbrev pub collect-number : CollectAnswer → ℕ
+collect-number collects.Done = 0
+collect-number collects.Unsound = 20
+collect-number collects.ShortScratch = 19
+collect-number collects.NoSuchSlot = 14
+
+pub collect-number-is : (a : CollectAnswer) → collect-number a ≡ told (collect-answer a)
+unfolding told number-of
+collect-number-is collects.Done = refl
+collect-number-is collects.Unsound = refl
+collect-number-is collects.ShortScratch = refl
+collect-number-is collects.NoSuchSlot = refl
+
+abbrev pub store-number : StoreAnswer → ℕ
+store-number stores.Done = 0
+store-number stores.Unsound = 20
+store-number (stores.Malformed f) = 11
+store-number stores.NoSuchSlot = 14
+store-number stores.WrongCell = 15
+
+pub store-number-is : (a : StoreAnswer) → store-number a ≡ told (store-answer a)
+unfolding told number-of
+store-number-is stores.Done = refl
+store-number-is stores.Unsound = refl
+store-number-is (stores.Malformed f) = refl
+store-number-is stores.NoSuchSlot = refl
+store-number-is stores.WrongCell = refl
+
+pub told-collect : (x : Left (Unit {0})) (a : CollectAnswer) (r : ℕ) (after : Lent) (end : List ℕ) → left (collect-answer a) after end ≡ x → r ≡ told (collect-answer a) → ToldCollect x r after end
+told-collect x a r after end e is =
+    record {
+      number = is ∙ ap (λ (y : Left (Unit {0})). told (y .answer)) e;
+      lent-is = ap (λ (y : Left (Unit {0})). y .lent) e;
+      scratch-is = ap (λ (y : Left (Unit {0})). y .scratch) e;
+    }
+
+pub told-store : (x : Stored) (a : StoreAnswer) (r : ℕ) (after : Lent) → stored (store-answer a) after ≡ x → r ≡ told (store-answer a) → ToldStore x r after
+told-store x a r after e is =
+    record { number = is ∙ ap (λ (y : Stored). told (y .answer)) e; lent-is = ap (λ (y : Stored). y .lent) e }
+
+module _ (a : Answer Bool) (stood : ℕ) where
+  pub told-truth : (t : Bool) → a ≡ accepted t → ToldTruth a stood 0 (boolByte t)
+  unfolding told given
+  told-truth t e =
+      record { number = ap told (sym e); second = bool-word t ∙ ap (λ (x : Answer Bool). given bit x stood) (sym e) }
+
+  pub no-truth : (r : Refusal) → a ≡ refused r → ToldTruth a stood (number-of r) stood
+  unfolding told given
+  no-truth r e = record { number = ap told (sym e); second = ap (λ (x : Answer Bool). given bit x stood) (sym e) }
+
+  pub truth-same : (b : Answer Bool) (r n : ℕ) → a ≡ b → ToldTruth a stood r n → ToldTruth b stood r n
+  truth-same b r n e t = subst (λ (x : Answer Bool). ToldTruth x stood r n) e t

@@ -2,12 +2,13 @@
 -- written over what the caller lent for it; "A refusal answers its number only, and leaves heap and output as they stood", so
 -- after a refusal what was lent is as it was. Document 01, "What a caller is told". Assumes nothing.
 use mathlib.Core.Path.{_≡_}
+use mathlib.Core.Bool.{Bool}
 use mathlib.Core.List.{List}
 use Prim.Native.Nat.{ℕ}
 use Rattle.rules.specs.Refusals.{Answer, accepted, refused, told}
-use Rattle.rules.specs.Cells.{Block}
+use Rattle.rules.specs.Cells.{Block, bit}
 use Rattle.rules.specs.Layout.{Lent}
-use Rattle.rules.specs.Calls.{Left, Set-up}
+use Rattle.rules.specs.Calls.{Left, Set-up, Stored}
 
 -- a number of what was asked for, or what stood there
 unfoldable pub given {ℓ} : {A : Type 0} {B : Type ℓ} → (A → B) → Answer A → B → B
@@ -35,3 +36,19 @@ pub record ToldPut (x : Left ℕ) (stood r : ℕ) (after : Lent) (end : List ℕ
   pub told-is : Told (x .answer) stood r n
   pub lent-is : after ≡ x .lent
   pub scratch-is : end ≡ x .scratch
+
+-- collection: the number, the lists and the scratch
+pub record ToldCollect (x : Left (Unit {0})) (r : ℕ) (after : Lent) (end : List ℕ) : Type 0 where
+  pub number : r ≡ told (x .answer)
+  pub lent-is : after ≡ x .lent
+  pub scratch-is : end ≡ x .scratch
+
+-- a store: the number and the lists
+pub record ToldStore (x : Stored) (r : ℕ) (after : Lent) : Type 0 where
+  pub number : r ≡ told (x .answer)
+  pub lent-is : after ≡ x .lent
+
+-- an answer that is yes or no: 1 or 0
+pub record ToldTruth (a : Answer Bool) (stood r n : ℕ) : Type 0 where
+  pub number : r ≡ told a
+  pub second : n ≡ given bit a stood

@@ -2,10 +2,11 @@
 // than the doors'. A slice is a pointer and then a length. Each answers "0 or the refusal", by document 01's number, and gives
 // what was asked for through its last parameters: "A refusal answers its number only, and leaves heap and output as they stood."
 ghost use mathlib.Core.Path.{_≡_};
-ghost use Rattle.rules.specs.Calls.{setup, put-call, text-call, capacity-call, free-call, used-call};
+ghost use Rattle.rules.specs.Refusals.{told};
+ghost use Rattle.rules.specs.Calls.{setup, put-call, collect-call, cell-store, element-store, eqv-call, text-call, capacity-call, free-call, used-call};
 ghost use Rattle.heap_sound_rows.specs.Rows.{lists};
-ghost use Rattle.doors.specs.Answers.{put-answer, count-answer, block-answer};
-ghost use Rattle.c_doors.specs.Told.{Told, ToldBlock, ToldSetup, ToldPut};
+ghost use Rattle.doors.specs.Answers.{put-answer, collect-answer, store-answer, eqv-answer, count-answer, block-answer};
+ghost use Rattle.c_doors.specs.Told.{Told, ToldBlock, ToldSetup, ToldPut, ToldCollect, ToldStore, ToldTruth};
 
 // "10 | setup, which gives no other": a fresh heap in the lent lists, whatever they held.
 #[no_mangle]
@@ -59,6 +60,117 @@ pub extern "C" fn talvongre_put(
 {
     let a = doors::put(words, map, bytes, elems, scratch, datum);
     tell_slot(a, slot)
+}
+
+// A collection's answer by number.
+fn tell_collect(a: doors::CollectAnswer) -> u32
+    ensures { λ r. ⌜ r ≡ told (collect-answer a) ⌝ }
+{
+    match a {
+        doors::CollectAnswer::Done => 0,
+        doors::CollectAnswer::Unsound => 20,
+        doors::CollectAnswer::ShortScratch => 19,
+        doors::CollectAnswer::NoSuchSlot => 14,
+    }
+}
+
+// Keeps what the roots reach: 20, 19 or 14, or 0.
+#[no_mangle]
+pub extern "C" fn talvongre_collect(
+    words: &mut [u64],
+    map: &mut [u8],
+    bytes: &mut [u8],
+    elems: &mut [u64],
+    scratch: &mut [u64],
+    roots: &[u64],
+) -> u32
+    ensures { λ r. ⌜ ToldCollect (collect-call (lists (now (words .entry)) (now (map .entry)) (now (bytes .entry)) (now (elems .entry))) (now (scratch .entry)) (now (roots .entry))) r (lists (now (words .exit)) (now (map .exit)) (now (bytes .exit)) (now (elems .exit))) (now (scratch .exit)) ⌝ }
+{
+    let a = doors::collect(words, map, bytes, elems, scratch, roots);
+    tell_collect(a)
+}
+
+// A store's answer by number.
+fn tell_store(a: doors::StoreAnswer) -> u32
+    ensures { λ r. ⌜ r ≡ told (store-answer a) ⌝ }
+{
+    match a {
+        doors::StoreAnswer::Done => 0,
+        doors::StoreAnswer::Unsound => 20,
+        doors::StoreAnswer::Malformed(_) => 11,
+        doors::StoreAnswer::NoSuchSlot => 14,
+        doors::StoreAnswer::WrongCell => 15,
+    }
+}
+
+// "Cell store: a scalar or a pair of used slots into a used slot": 20, 11, 14 or 15, or 0.
+#[no_mangle]
+pub extern "C" fn talvongre_cell_store(
+    words: &mut [u64],
+    map: &[u8],
+    bytes: &[u8],
+    elems: &[u64],
+    slot: u64,
+    kind: u64,
+    a: u64,
+    b: u64,
+) -> u32
+    ensures { λ r. ⌜ ToldStore (cell-store (lists (now (words .entry)) (now (map .entry)) (now (bytes .entry)) (now (elems .entry))) slot kind a b) r (lists (now (words .exit)) (now (map .entry)) (now (bytes .entry)) (now (elems .entry))) ⌝ }
+{
+    let x = doors::cell_store(words, map, bytes, elems, slot, kind, a, b);
+    tell_store(x)
+}
+
+// "Element store: a scalar or a used slot": 20, 11, 14 or 15, or 0.
+#[no_mangle]
+pub extern "C" fn talvongre_element_store(
+    words: &[u64],
+    map: &[u8],
+    bytes: &[u8],
+    elems: &mut [u64],
+    slot: u64,
+    k: u64,
+    kind: u64,
+    a: u64,
+) -> u32
+    ensures { λ r. ⌜ ToldStore (element-store (lists (now (words .entry)) (now (map .entry)) (now (bytes .entry)) (now (elems .entry))) slot k kind a) r (lists (now (words .entry)) (now (map .entry)) (now (bytes .entry)) (now (elems .exit))) ⌝ }
+{
+    let x = doors::element_store(words, map, bytes, elems, slot, k, kind, a);
+    tell_store(x)
+}
+
+// The answer of `eqv` by number, and 1 or 0 for yes or no.
+fn tell_eqv(a: doors::EqvAnswer, truth: &mut u64) -> u32
+    ensures { λ r. ⌜ ToldTruth (eqv-answer a) (now (truth .entry)) r (now (truth .exit)) ⌝ }
+{
+    match a {
+        doors::EqvAnswer::Truth(t) => {
+            *truth = t as u64;
+            0
+        }
+        doors::EqvAnswer::Unsound => 20,
+        doors::EqvAnswer::Malformed(_) => 11,
+        doors::EqvAnswer::NoSuchSlot => 14,
+    }
+}
+
+// `eqv` of two values: 20, 11 or 14, or 0 and the truth.
+#[no_mangle]
+pub extern "C" fn talvongre_eqv(
+    words: &[u64],
+    map: &[u8],
+    bytes: &[u8],
+    elems: &[u64],
+    kind: u64,
+    a: u64,
+    kind2: u64,
+    a2: u64,
+    truth: &mut u64,
+) -> u32
+    ensures { λ r. ⌜ ToldTruth (eqv-call (lists (now (words .entry)) (now (map .entry)) (now (bytes .entry)) (now (elems .entry))) kind a kind2 a2) (now (truth .entry)) r (now (truth .exit)) ⌝ }
+{
+    let x = doors::eqv(words, map, bytes, elems, kind, a, kind2, a2);
+    tell_eqv(x, truth)
 }
 
 // A block's answer by number, and its place and size.
