@@ -2,7 +2,7 @@
 -- 12's numbers, no label is referred to early (13), and its bytes parse back to it. Assumes nothing.
 use mathlib.Core.Path.{_≡_, refl, sym, ap, _∙_, subst}
 use mathlib.Core.Bool.{Bool, true, false}
-use mathlib.Core.List.{List, [], _∷_, _++_, append-nil}
+use mathlib.Core.List.{List, [], append-nil}
 use mathlib.Core.Option.{Option, none, some}
 use Prim.Native.Nat.{ℕ, _+_, _*_, _≤_, _<_}
 use native.Mathlib.Omega.{arith}
@@ -10,7 +10,7 @@ use native.Mathlib.Decide.{decLt}
 use borrow.Author.Tests.{leb-true, le-leb, lt-ltb}
 use lib.Dec.{leb, ltb}
 use lib.ListN.{length, getD, List·getD-append, List·getD-eq-default}
-use Rattle.laws.specs.Basics.{both, every, join, distinct, basics}
+use Rattle.laws.specs.Basics.{every, join, distinct, basics}
 use Rattle.laws.proofs.Tests.{both-left, both-right, both-true}
 use Rattle.laws.proofs.Lists.{getD-rows}
 use Rattle.laws.proofs.Pointwise.{every-weaker}
@@ -21,7 +21,7 @@ use Rattle.rules.specs.Datum.{Datum, nodes, encode, parse, good, node-within, l
 use Rattle.rules.specs.Heap.{Heap, capacity, cell-at}
 use Rattle.rules.specs.Layout.{Rooms, cell-words, value-words, words-of, filled, layout-rules}
 use Rattle.rules.specs.Sound.{scalar-allowed, cell-allowed, value-allowed, sound-rules}
-use Rattle.rules.specs.Read.{Room, Built, labels-for, build, reading-of, reading, read-rules}
+use Rattle.rules.specs.Read.{Room, Built, labels-for, build, reading-of, reading}
 use Rattle.rules.proofs.Datum.{parse-encode}
 use Rattle.rules.proofs.LentLaws.{value-width, word-at, cell-word, elements-length}
 use Rattle.rules.proofs.Good.{element-at, Good}

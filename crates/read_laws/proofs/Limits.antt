@@ -2,14 +2,14 @@
 -- Document 01, "Numbers": "64 distinct labels". Assumes nothing.
 use mathlib.Core.Path.{_≡_, refl, sym, ap, _∙_}
 use mathlib.Core.Bool.{Bool, true, false, not}
-use mathlib.Core.List.{List, [], _∷_, _++_, map}
-use Prim.Native.Nat.{ℕ, zero, suc, _+_, _≤_, _<_}
+use mathlib.Core.List.{List, [], _∷_, map}
+use Prim.Native.Nat.{ℕ, suc, _≤_, _<_}
 use native.Mathlib.Omega.{arith}
 use native.Mathlib.Decide.{ℕ-discrete}
 use borrow.Author.Tests.{eq-eqb, eqb-true, eqb-false}
 use lib.Dec.{eqb, ltb}
 use lib.ListN.{length}
-use Rattle.laws.specs.Basics.{choose, both, either, every, keep, join, member, count, distinct, basics}
+use Rattle.laws.specs.Basics.{choose, either, every, keep, join, member, count, distinct, basics}
 use Rattle.laws.proofs.Tests.{true≢false, both-left, both-right, both-true, every-append}
 use Rattle.laws.proofs.Pointwise.{count-here, count-other}
 use Rattle.rules.specs.Read.{place-in}

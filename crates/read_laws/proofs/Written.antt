@@ -1,7 +1,7 @@
 -- What a build writes, node by node: each keeps 11's rules and 12's numbers, as many are written as the room loses, and no
 -- label is referred to that is not begun by then. Document 01, "Reading back": "a labelled slot is a definition at first
 -- meeting and a reference later." Assumes nothing.
-use mathlib.Core.Path.{_≡_, refl, sym, ap, _∙_, subst}
+use mathlib.Core.Path.{_≡_, refl, ap, _∙_, subst}
 use mathlib.Core.Bool.{Bool, true, false, not}
 use mathlib.Core.List.{List, [], _∷_, _++_, map, append-assoc}
 use mathlib.Core.Option.{Option, none, some}
@@ -9,17 +9,17 @@ use Prim.Native.Nat.{ℕ, zero, suc, _+_, _≤_, _<_}
 use native.Mathlib.Omega.{arith}
 use borrow.Author.Tests.{leb-true, le-leb, lt-ltb}
 use lib.Dec.{leb, ltb}
-use lib.ListN.{length, getD, take, drop, length-append}
+use lib.ListN.{length, length-append}
 use Rattle.laws.specs.Basics.{both, either, every, member, basics}
-use Rattle.laws.proofs.Tests.{true≢false, both-left, both-right, both-true, every-append}
+use Rattle.laws.proofs.Tests.{both-left, both-right, both-true, every-append}
 use Rattle.laws.proofs.Pointwise.{all-every, length-part, getD-part}
 use Rattle.rules.specs.Numbers.{bits32, most-labels, most-vector, most-string, most-name}
 use Rattle.rules.specs.Utf8.{utf8}
 use Rattle.rules.specs.Cells.{Scalar, undefined, Value, slot, scalar, Block, Cell, plain, pair, symbol, string, vector}
 use Rattle.rules.specs.Nodes.{Atom, Node, node-fits, scalar-fits, text-fits, nodes-rules}
-use Rattle.rules.specs.Datum.{Datum, Data, end, more, how-many, nodes, all-nodes, node-within, label-of, refers-early, datum-rules}
+use Rattle.rules.specs.Datum.{Datum, Data, more, how-many, nodes, all-nodes, node-within, label-of, refers-early, datum-rules}
 use Rattle.rules.specs.Heap.{Heap, cell-at, text-of, elements-of}
-use Rattle.rules.specs.Sound.{cell-allowed, text-block, vector-block, lies-in, sound-rules}
+use Rattle.rules.specs.Sound.{lies-in, sound-rules}
 use Rattle.rules.specs.Read.{Room, Built, built, and-then, spend, place-in, build-all, build-cell, build, read-rules}
 use Rattle.rules.proofs.Good.{element-at, Good, Cell-good}
 use Rattle.read_laws.proofs.Texts.{utf8-bytes}
