@@ -48,7 +48,7 @@ module _ (r : Rooms) (h : Heap) (words elems : List ℕ) (t : Stands r h words e
   cell-there s small =
       ap (λ (l : List ℕ). loaded l s) (t .words-are) ∙ loaded-is (r .slots) h s (omega (arith, t .slots))
 
-  elems-length : 3 * length (h .elements) ≤ length elems
+  pub elems-length : 3 * length (h .elements) ≤ length elems
   unfolding layout-rules
   elems-length =
       let l = join value-words (h .elements) in

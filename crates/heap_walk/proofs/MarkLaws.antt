@@ -41,11 +41,11 @@ place-last (y ∷ xs) s e = go (eqb s y) (λ p. place-last xs s p) e
 
 -- ---- words of a mark
 
-label-none : (labels : List ℕ) (s : ℕ) → member s labels ≡ false → label-word labels s ≡ 0
+pub label-none : (labels : List ℕ) (s : ℕ) → member s labels ≡ false → label-word labels s ≡ 0
 unfolding label-word
 label-none labels s e = ap (λ (b : Bool). choose b (suc (place-in labels s)) 0) e
 
-label-some : (labels : List ℕ) (s : ℕ) → member s labels ≡ true → label-word labels s ≡ suc (place-in labels s)
+pub label-some : (labels : List ℕ) (s : ℕ) → member s labels ≡ true → label-word labels s ≡ suc (place-in labels s)
 unfolding label-word
 label-some labels s e = ap (λ (b : Bool). choose b (suc (place-in labels s)) 0) e
 
@@ -76,11 +76,11 @@ state-new : (path met : List ℕ) (s : ℕ) → member s path ≡ false → memb
 unfolding state-word
 state-new path met s e m = ap (λ (b : Bool). choose b 2 (choose (member s met) 1 0)) e ∙ ap (λ (b : Bool). choose b 1 0) m
 
-member-other : (x s : ℕ) (l : List ℕ) → (x ≡ s → ⊥) → member x (s ∷ l) ≡ member x l
+pub member-other : (x s : ℕ) (l : List ℕ) → (x ≡ s → ⊥) → member x (s ∷ l) ≡ member x l
 unfolding basics
 member-other x s l d = ap (λ (b : Bool). either b (member x l)) (ne-eqb x s d)
 
-member-self : (s : ℕ) (l : List ℕ) → member s (s ∷ l) ≡ true
+pub member-self : (s : ℕ) (l : List ℕ) → member s (s ∷ l) ≡ true
 unfolding basics
 member-self s l = ap (λ (b : Bool). either b (member s l)) (eq-eqb s s refl)
 

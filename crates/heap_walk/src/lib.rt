@@ -9,7 +9,7 @@ use leaf_cells::Value;
 ghost use mathlib.Core.Path.{_≡_};
 ghost use Rattle.rules.specs.Heap.{Heap};
 ghost use Rattle.rules.specs.Layout.{Rooms};
-ghost use Prim.Native.Nat.{_+_, _*_, _^_, _≤_, _<_};
+ghost use Prim.Native.Nat.{_+_, _*_, _≤_, _<_};
 ghost use lib.ListN.{length};
 ghost use Rattle.leaf_cells.specs.Cells.{loaded};
 ghost use Rattle.leaf_cells.specs.Elements.{value-of};

@@ -6,7 +6,7 @@
 use leaf_cells::Words;
 ghost use mathlib.Core.Path.{_≡_};
 ghost use mathlib.Core.List.{_∷_};
-ghost use Prim.Native.Nat.{_+_, _≤_};
+ghost use Prim.Native.Nat.{_≤_};
 ghost use lib.ListN.{length, set};
 ghost use Rattle.laws.specs.Basics.{little};
 ghost use Rattle.rules.specs.Cells.{Scalar};
