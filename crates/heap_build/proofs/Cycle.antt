@@ -70,7 +70,7 @@ short-node n k e h = omega (arith, e)
 label-size : (k l : ℕ) → length (k ∷ little 4 l) ≡ 5
 label-size k l = ap suc (length-little 4 l)
 
-scalar-size : (x : Scalar) → length (write-scalar x) ≤ 4101
+pub scalar-size : (x : Scalar) → length (write-scalar x) ≤ 4101
 unfolding nodes-rules
 scalar-size cells.undefined = omega arith
 scalar-size cells.nil = omega arith
