@@ -1,0 +1,4 @@
+pub mod DraftLaws
+pub mod StepLaws
+pub mod Cycle
+pub mod KindLaws

@@ -1,0 +1,4 @@
+pub mod WalkLaws
+pub mod MarkLaws
+pub mod KindLaws
+pub mod Cycle

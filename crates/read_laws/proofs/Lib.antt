@@ -1,0 +1,4 @@
+pub mod Texts
+pub mod Limits
+pub mod Written
+pub mod Accepted
