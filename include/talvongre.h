@@ -12,7 +12,7 @@
  * memory, and nothing else may write to them while the call runs. The heap is in the lists alone: they may be kept, copied
  * and moved between calls, and calls on different heaps may run side by side.
  *
- * SCRATCH. Put takes a list of words to work in: at capacity c at least 8c + 128 words, TALVONGRE_SCRATCH_WORDS(c). On return
+ * SCRATCH. Put and the collection take a list of words to work in: at capacity c at least 8c + 128 words, TALVONGRE_SCRATCH_WORDS(c). On return
  * all of it is zero, whatever it held; only after 19 and 20 it is as it was.
  *
  * ANSWERS. Each call answers TALVONGRE_OK or the number of a refusal. Every call but setup first sees whether the lists are a
@@ -39,11 +39,11 @@ extern "C" {
 #define TALVONGRE_BAD_SETUP 10     /* setup: chunk, lent slots or an arena outside their numbers */
 #define TALVONGRE_UNSOUND 20       /* the lent lists are not a sound heap */
 #define TALVONGRE_SHORT_SCRATCH 19 /* scratch shorter than the formula */
-#define TALVONGRE_MALFORMED 11     /* datum: unknown kind, cut short, nodes left over, Bool not 0 or 1, Char or UTF-8 not allowed */
+#define TALVONGRE_MALFORMED 11     /* datum or given value: unknown kind, cut short, nodes left over, Bool not 0 or 1, Char or UTF-8 not allowed */
 #define TALVONGRE_OVER_LIMIT 12    /* datum: over 4,096 nodes, 64 labels, 1,024 elements, 4,096 bytes of a string, 255 of a name */
 #define TALVONGRE_EARLY_LABEL 13   /* a label is referred to before a definition of it has begun */
 #define TALVONGRE_NO_SUCH_SLOT 14  /* a slot given is past the capacity or Free */
-#define TALVONGRE_WRONG_CELL 15    /* text: the slot holds neither a string nor a symbol */
+#define TALVONGRE_WRONG_CELL 15    /* text: neither string nor symbol; cell store: the slot holds a symbol; element store: no vector, no such element */
 #define TALVONGRE_NO_SLOTS 16      /* the slots needed exceed the free ones plus all growth that fits */
 #define TALVONGRE_NO_ROOM 17       /* an arena has less room than needed */
 
@@ -77,6 +77,34 @@ uint32_t talvongre_setup(uint64_t *words, size_t words_len, uint8_t *map, size_t
 uint32_t talvongre_put(uint64_t *words, size_t words_len, uint8_t *map, size_t map_len, uint8_t *bytes, size_t bytes_len,
                        uint64_t *elems, size_t elems_len, uint64_t *scratch, size_t scratch_len, const uint8_t *datum,
                        size_t datum_len, uint64_t *slot);
+
+/* Collects: keeps what the roots reach and frees the rest, in rising order; packs both arenas by lowest slot, each block once, and
+ * clears what is behind them. The roots are slots; there may be none, and one may be named twice. A pair leads to its car and cdr, a
+ * vector to each element that is a slot. Kept cells stay in their slots; the place of a text or a vector may change.
+ * Answers 0, 20, 19 or 14, which is found before anything is changed. */
+uint32_t talvongre_collect(uint64_t *words, size_t words_len, uint8_t *map, size_t map_len, uint8_t *bytes, size_t bytes_len,
+                           uint64_t *elems, size_t elems_len, uint64_t *scratch, size_t scratch_len, const uint64_t *roots,
+                           size_t roots_len);
+
+/* Stores a scalar (kinds 0 to 6, with its field in a) or a pair (kind 9, car in a and cdr in b) into a slot that holds no symbol.
+ * Fields that a kind does not have are not looked at. A text or vector that the slot held keeps its room until a collection.
+ * Answers 0, 20, 11, 14 or 15. */
+uint32_t talvongre_cell_store(uint64_t *words, size_t words_len, const uint8_t *map, size_t map_len, const uint8_t *bytes,
+                              size_t bytes_len, const uint64_t *elems, size_t elems_len, uint64_t slot, uint64_t kind, uint64_t a,
+                              uint64_t b);
+
+/* Stores a scalar (kinds 0 to 6) or a slot (kind 15, the slot in a) as element k of the vector in a slot. It shows through every slot
+ * that shows the same block.
+ * Answers 0, 20, 11, 14 or 15. */
+uint32_t talvongre_element_store(const uint64_t *words, size_t words_len, const uint8_t *map, size_t map_len, const uint8_t *bytes,
+                                 size_t bytes_len, uint64_t *elems, size_t elems_len, uint64_t slot, uint64_t k, uint64_t kind,
+                                 uint64_t a);
+
+/* Compares two values by eqv: each a scalar (kinds 0 to 6) or a slot (kind 15). Writes 1 or 0 to *truth.
+ * Answers 0, 20, 11 or 14. */
+uint32_t talvongre_eqv(const uint64_t *words, size_t words_len, const uint8_t *map, size_t map_len, const uint8_t *bytes,
+                       size_t bytes_len, const uint64_t *elems, size_t elems_len, uint64_t kind, uint64_t a, uint64_t kind2,
+                       uint64_t a2, uint64_t *truth);
 
 /* Finds the text of the string or symbol in a slot: it is the part of `bytes` that begins at *place and has *size bytes.
  * Answers 0, 20, 14 or 15. */
