@@ -229,6 +229,45 @@ module _ (j : Job) (s : ℕ) (p : Page) (words bytes elems marks out : List ℕ)
                   (c .left));
             }
 
+-- a slot whose cell is to be built, past the definition of its label where it has one
+pub record Entered (j : Job) (s : ℕ) (p : Page) (words bytes elems marks₀ out₀ : List ℕ) (q : Page) (marks out : List ℕ) : Type 0 where
+  pub job : Job
+  pub task : CellTask job s q words bytes elems marks out
+  pub done : (r : Page) (marks′ out′ : List ℕ) → CellDone job s r marks′ out′ → Done j s r marks′ out′
+  pub fewer : q .left ≤ p .left
+  pub marks-size : length marks ≡ length marks₀
+  pub out-size : length out ≡ length out₀
+
+module _ (j : Job) (s : ℕ) (p : Page) (words bytes elems marks out : List ℕ) where
+  pub entered-as : (q q′ : Page) (marks₁ marks₂ out₁ out₂ : List ℕ) → q′ ≡ q → marks₂ ≡ marks₁ → out₂ ≡ out₁ → Entered j s p words bytes elems marks out q marks₁ out₁ → Entered j s p words bytes elems marks out q′ marks₂ out₂
+  entered-as q q′ marks₁ marks₂ out₁ out₂ a b c e =
+      subst (λ (x : Page). Entered j s p words bytes elems marks out x marks₂ out₂) (sym a)
+      (subst (λ (x : List ℕ). Entered j s p words bytes elems marks out q x out₂) (sym b)
+      (subst (λ (x : List ℕ). Entered j s p words bytes elems marks out q marks₁ x) (sym c) e))
+
+  module _ (t : Task j s p words bytes elems marks out) where
+    pub entered-plain : getD marks s 0 < 4 → Entered j s p words bytes elems marks out p marks out
+    entered-plain low =
+        record {
+          job = deeper j;
+          task = plain-task j s p words bytes elems marks out t low;
+          done = plain-done j s p words bytes elems marks out t low;
+          fewer = omega arith;
+          marks-size = refl;
+          out-size = refl;
+        }
+
+    pub entered-label : (high : getD marks s 0 < 4 → ⊥) (new : getD marks s 0 % 4 ≡ 2 → ⊥) (after : List ℕ) (q : Page) (n : Noted out (12 ∷ little 4 (getD marks s 0 / 4 - 1)) p after q) → q .over ≡ false → length after ≡ length out → Entered j s p words bytes elems marks out q (set marks s (getD marks s 0 / 4 * 4 + 2)) after
+    entered-label high new after q n on size =
+        record {
+          job = def-job j s p words bytes elems marks out t high new after q n on;
+          task = def-task j s p words bytes elems marks out t high new after q n on;
+          done = def-done j s p words bytes elems marks out t high new after q n on;
+          fewer = omega (arith, def-falls j s p words bytes elems marks out t high new after q n on);
+          marks-size = length-set marks s (getD marks s 0 / 4 * 4 + 2);
+          out-size = size;
+        }
+
 -- ---- a slot's cell
 
 -- a cell that is a scalar

@@ -24,16 +24,16 @@ pub fn build(
     ensures { λ r. ⌜ ((j : Job) → Task j slot p (now (words .entry)) (now (bytes .entry)) (now (elems .entry)) (now (marks .entry)) (now (out .entry)) → Done j slot r (now (marks .exit)) (now (out .exit))) ⌝ }
 {
     let m = marks[slot];
-    if m < 4 {
-        return build_cell(words, bytes, elems, marks, out, slot, p);
-    }
-    if m % 4 == 2 {
-        return leaf_write::field(out, 13, 4, m / 4 - 1, p);
-    }
-    marks[slot] = m / 4 * 4 + 2;
-    let q = leaf_write::field(out, 12, 4, m / 4 - 1, p);
-    if q.over {
-        return q;
+    let mut q = p;
+    if m >= 4 {
+        if m % 4 == 2 {
+            return leaf_write::field(out, 13, 4, m / 4 - 1, p);
+        }
+        marks[slot] = m / 4 * 4 + 2;
+        q = leaf_write::field(out, 12, 4, m / 4 - 1, p);
+        if q.over {
+            return q;
+        }
     }
     build_cell(words, bytes, elems, marks, out, slot, q)
 }

@@ -1,8 +1,9 @@
 -- The cycle of `heap_build`: a slot, its cell, a pair, a vector, its elements and one of them. The nodes left fall from a pair or a
 -- vector to what it holds, and from a definition to its cell. Assumes nothing.
-use Rattle.heap_build.proofs.Cycle.{slot-mark, task-at, plain-task, plain-done, ref-done, def-over, def-falls, def-task, def-done, cell-row, cell-at-small, pair-task, pair-cell, vector-task, vector-cell, symbol-room, symbol-short, symbol-cell, string-room, string-short, string-cell, scalar-cell, cell-scalar, value-scalar, pair-at, pair-over, head-falls, car-task, car-over, car-falls, cdr-task, pair-done, vector-at, vector-over, vector-falls, items-task, vector-done, Going, going-start, going-place, going-left, going-ends, element-task, going-over, going-on, element-here, element-at-small, element-slot, slot-element, scalar-element}
+use Rattle.heap_build.proofs.Cycle.{slot-mark, task-at, ref-done, def-over, Entered, entered-as, entered-plain, entered-label, cell-row, cell-at-small, pair-task, pair-cell, vector-task, vector-cell, symbol-room, symbol-short, symbol-cell, string-room, string-short, string-cell, scalar-cell, cell-scalar, value-scalar, pair-at, pair-over, head-falls, car-task, car-over, car-falls, cdr-task, pair-done, vector-at, vector-over, vector-falls, items-task, vector-done, Going, going-start, going-place, going-left, going-ends, element-task, going-over, going-on, element-here, element-at-small, element-slot, slot-element, scalar-element}
 use Rattle.heap_build.proofs.KindLaws.{plain-cell}
-use Rattle.heap_build.specs.Tasks.{Job, ElementsTask}
+use mathlib.Core.Logic.{⊎-elim}
+use Rattle.heap_build.specs.Tasks.{Job, Task, ElementsTask}
 use Rattle.heap_walk.proofs.KindLaws.{other-value}
 use lib.ListN.{length, length-set}
 use mathlib.Core.Path.{_≡_, refl, _∙_}
@@ -126,7 +127,7 @@ build-vector-below t =
     build-vector.Pre
 
 abbrev build-calls : ℕ → build-lts.Claims
-build-calls t = (build-cell-below t, build-cell.Post, field-reads.Asked, field-reads.Learnt)
+build-calls t = (field-reads.Asked, field-reads.Learnt, build-cell-below t, build-cell.Post)
 
 abbrev build-cell-calls : ℕ → build-cell-lts.Claims
 build-cell-calls t = (load-reads.Asked, load-reads.Learnt, build-pair-below t, build-pair.Post, build-vector-below t, build-vector.Post, text-reads.Asked, text-reads.Learnt, text-reads′.Asked, text-reads′.Learnt, cell-words-reads.Asked, cell-words-reads.Learnt, scalar-reads.Asked, scalar-reads.Learnt)
@@ -149,29 +150,17 @@ build-mul-m t c = omega (arith, slot-mark _ _ _ _ _ _ _ _ (c .before .before .be
 build-slice-read-m : (t : ℕ) → build-lts.Need-slice-read-m (build-calls t) (build-at t) build.Post
 build-slice-read-m t c = slot-mark _ _ _ _ _ _ _ _ (c .before .before .before .before .before .before .pre .1 .1)
 
-build-build-cell-requires : (t : ℕ) → build-lts.Need-build-cell-requires (build-calls t) (build-at t) build.Post
-build-build-cell-requires t c κs = (omega (arith, c .before .before .before .before .before .before .before .before .before .pre .0), (_, plain-task _ _ _ _ _ _ _ _ (c .before .before .before .before .before .before .before .before .before .pre .1 .1) (c .before .before .if1 .taken)))
-
-build-same-length : (t : ℕ) → build-lts.Need-same-length (build-calls t) (build-at t) build.Post
-build-same-length t c = c .before .before .before .before .build-cell .kept .1 .1 .1 .0
-
-build-same-length-2 : (t : ℕ) → build-lts.Need-same-length-2 (build-calls t) (build-at t) build.Post
-build-same-length-2 t c = c .before .before .before .before .build-cell .kept .1 .1 .1 .1 .0
-
-build-returns : (t : ℕ) → build-lts.Need-returns (build-calls t) (build-at t) build.Post
-build-returns t c = λ j k. plain-done j _ _ _ _ _ _ _ k (c .before .before .before .before .before .before .before .if1 .taken) _ _ _ (c .before .before .before .before .build-cell .ensures _ (plain-task j _ _ _ _ _ _ _ k (c .before .before .before .before .before .before .before .if1 .taken)))
-
 build-sub-field : (t : ℕ) → build-lts.Need-sub-field (build-calls t) (build-at t) build.Post
 build-sub-field t c = omega arith
 
 build-field-requires : (t : ℕ) → build-lts.Need-field-requires (build-calls t) (build-at t) build.Post
 build-field-requires t c κs = (omega (arith, task-at _ _ _ _ _ _ _ _ (c .before .before .before .before .before .before .before .before .before .pre .1 .1)), omega arith)
 
-build-same-length-3 : (t : ℕ) → build-lts.Need-same-length-3 (build-calls t) (build-at t) build.Post
-build-same-length-3 t c = c .before .before .field .kept .0
+build-same-length : (t : ℕ) → build-lts.Need-same-length (build-calls t) (build-at t) build.Post
+build-same-length t c = c .before .before .field .kept .0
 
-build-returns-2 : (t : ℕ) → build-lts.Need-returns-2 (build-calls t) (build-at t) build.Post
-build-returns-2 t c = λ j k. ref-done j _ _ _ _ _ _ _ k (λ q. omega arith) (c .before .before .before .before .if2 .taken) _ _ (c .before .before .field .ensures)
+build-returns : (t : ℕ) → build-lts.Need-returns (build-calls t) (build-at t) build.Post
+build-returns t c = λ j k. ref-done j _ _ _ _ _ _ _ k (λ q. omega arith) (c .before .before .before .before .if2 .taken) _ _ (c .before .before .field .ensures)
 
 build-mul-marks : (t : ℕ) → build-lts.Need-mul-marks (build-calls t) (build-at t) build.Post
 build-mul-marks t c = omega (arith, c .before .before .slice-known3 .given (c .before .before .before .before .before .before .before .before .args .slot))
@@ -191,26 +180,34 @@ build-sub-field-2 t c = omega arith
 build-field-requires-2 : (t : ℕ) → build-lts.Need-field-requires-2 (build-calls t) (build-at t) build.Post
 build-field-requires-2 t c κs = (omega (arith, task-at _ _ _ _ _ _ _ _ (c .before .before .before .before .before .before .before .before .before .pre .1 .1)), omega arith)
 
+build-same-length-2 : (t : ℕ) → build-lts.Need-same-length-2 (build-calls t) (build-at t) build.Post
+build-same-length-2 t c = simp length-set
+
+build-same-length-3 : (t : ℕ) → build-lts.Need-same-length-3 (build-calls t) (build-at t) build.Post
+build-same-length-3 t c = c .before .before .before .field2 .kept .0
+
+build-returns-2 : (t : ℕ) → build-lts.Need-returns-2 (build-calls t) (build-at t) build.Post
+build-returns-2 t c = λ j k. def-over j _ _ _ _ _ _ _ k (λ q. omega arith) (c .before .before .before .before .before .if2 .left) _ _ (c .before .before .before .field2 .ensures) (c .if3 .taken)
+
+-- where the label's definition, if it has one, is written
+build-entered : (t : ℕ) (c : build-lts.Joined1 (build-calls t) (build-at t) build.Post) (j : Job) → Task j (c .before .before .before .before .before .before .before .args .slot) (c .before .before .before .before .before .before .before .args .p) (c .before .before .before .before .before .before .before .args .words .now) (c .before .before .before .before .before .before .before .args .bytes .now) (c .before .before .before .before .before .before .before .args .elems .now) (c .before .before .before .before .before .before .before .args .marks .now) (c .before .before .before .before .before .before .before .args .out .now) → Entered j (c .before .before .before .before .before .before .before .args .slot) (c .before .before .before .before .before .before .before .args .p) (c .before .before .before .before .before .before .before .args .words .now) (c .before .before .before .before .before .before .before .args .bytes .now) (c .before .before .before .before .before .before .before .args .elems .now) (c .before .before .before .before .before .before .before .args .marks .now) (c .before .before .before .before .before .before .before .args .out .now) (c .if1 .q) (c .if1 .marks) (c .if1 .out)
+build-entered t c j k =
+    ⊎-elim
+    (λ w. entered-as j _ _ _ _ _ _ _ _ _ _ _ _ _ (w .9) (w .7) (w .8) (entered-label j _ _ _ _ _ _ _ k (λ q. omega (arith, w .0 .taken)) (w .1 .left) _ _ (w .3 .ensures) (w .6 .left) (w .3 .kept .0)))
+    (λ w. entered-as j _ _ _ _ _ _ _ _ _ _ _ _ _ (w .3) (w .1) (w .2) (entered-plain j _ _ _ _ _ _ _ k (w .0 .left)))
+    (c .if1 .came)
+
+build-build-cell-requires : (t : ℕ) → build-lts.Need-build-cell-requires (build-calls t) (build-at t) build.Post
+build-build-cell-requires t c κs = let x = build-entered t (c .before .before) _ (c .before .before .before .before .before .before .before .before .before .pre .1 .1) in (omega (arith, c .before .before .before .before .before .before .before .before .before .pre .0, x .fewer), (_, x .task))
+
 build-same-length-4 : (t : ℕ) → build-lts.Need-same-length-4 (build-calls t) (build-at t) build.Post
-build-same-length-4 t c = simp length-set
+build-same-length-4 t c = c .before .before .before .before .build-cell .kept .1 .1 .1 .0 ∙ (build-entered t (c .before .before .before .before .before .before .before) _ (c .before .before .before .before .before .before .before .before .before .before .before .before .before .before .pre .1 .1)) .marks-size
 
 build-same-length-5 : (t : ℕ) → build-lts.Need-same-length-5 (build-calls t) (build-at t) build.Post
-build-same-length-5 t c = c .before .before .before .field2 .kept .0
+build-same-length-5 t c = c .before .before .before .before .build-cell .kept .1 .1 .1 .1 .0 ∙ (build-entered t (c .before .before .before .before .before .before .before) _ (c .before .before .before .before .before .before .before .before .before .before .before .before .before .before .pre .1 .1)) .out-size
 
 build-returns-3 : (t : ℕ) → build-lts.Need-returns-3 (build-calls t) (build-at t) build.Post
-build-returns-3 t c = λ j k. def-over j _ _ _ _ _ _ _ k (λ q. omega arith) (c .before .before .before .before .before .if2 .left) _ _ (c .before .before .before .field2 .ensures) (c .if3 .taken)
-
-build-build-cell-requires-2 : (t : ℕ) → build-lts.Need-build-cell-requires-2 (build-calls t) (build-at t) build.Post
-build-build-cell-requires-2 t c κs = (omega (arith, c .before .before .before .before .before .before .before .before .before .before .before .before .before .before .before .pre .0, def-falls _ _ _ _ _ _ _ _ (c .before .before .before .before .before .before .before .before .before .before .before .before .before .before .before .pre .1 .1) (λ q. omega arith) (c .before .before .before .before .before .before .before .if2 .left) _ _ (c .before .before .before .before .before .field2 .ensures) (c .before .before .if3 .left)), (_, def-task _ _ _ _ _ _ _ _ (c .before .before .before .before .before .before .before .before .before .before .before .before .before .before .before .pre .1 .1) (λ q. omega arith) (c .before .before .before .before .before .before .before .if2 .left) _ _ (c .before .before .before .before .before .field2 .ensures) (c .before .before .if3 .left)))
-
-build-same-length-6 : (t : ℕ) → build-lts.Need-same-length-6 (build-calls t) (build-at t) build.Post
-build-same-length-6 t c = c .before .before .before .before .build-cell2 .kept .1 .1 .1 .0 ∙ simp length-set
-
-build-same-length-7 : (t : ℕ) → build-lts.Need-same-length-7 (build-calls t) (build-at t) build.Post
-build-same-length-7 t c = c .before .before .before .before .build-cell2 .kept .1 .1 .1 .1 .0 ∙ c .before .before .before .before .before .before .before .before .before .before .field2 .kept .0
-
-build-returns-4 : (t : ℕ) → build-lts.Need-returns-4 (build-calls t) (build-at t) build.Post
-build-returns-4 t c = λ j k. def-done j _ _ _ _ _ _ _ k (λ q. omega arith) (c .before .before .before .before .before .before .before .before .before .before .before .before .if2 .left) _ _ (c .before .before .before .before .before .before .before .before .before .before .field2 .ensures) (c .before .before .before .before .before .before .before .if3 .left) _ _ _ (c .before .before .before .before .build-cell2 .ensures _ (def-task j _ _ _ _ _ _ _ k (λ q. omega arith) (c .before .before .before .before .before .before .before .before .before .before .before .before .if2 .left) _ _ (c .before .before .before .before .before .before .before .before .before .before .field2 .ensures) (c .before .before .before .before .before .before .before .if3 .left)))
+build-returns-3 t c = λ j k. let x = build-entered t (c .before .before .before .before .before .before .before) j k in x .done _ _ _ (c .before .before .before .before .build-cell .ensures _ (x .task))
 
 build-cell-load-requires : (t : ℕ) → build-cell-lts.Need-load-requires (build-cell-calls t) (build-cell-at t) build-cell.Post
 build-cell-load-requires t c κs = cell-row _ _ _ _ _ _ _ _ (c .before .before .before .before .before .pre .1 .1)
@@ -426,27 +423,23 @@ pub +build+build-cell+build-element+build-elements+build-pair+build-vector-spec 
     (λ t. build-lts.spec (build-calls t) (build-at t) build.Post
     (build-mul-m t)
     (build-slice-read-m t)
-    (build-build-cell-requires t)
-    (build-same-length t)
-    (build-same-length-2 t)
-    (build-returns t)
     (build-sub-field t)
     (build-field-requires t)
-    (build-same-length-3 t)
-    (build-returns-2 t)
+    (build-same-length t)
+    (build-returns t)
     (build-mul-marks t)
     (build-add-marks t)
     (build-mul-marks-2 t)
     (build-slice-write-marks t)
     (build-sub-field-2 t)
     (build-field-requires-2 t)
+    (build-same-length-2 t)
+    (build-same-length-3 t)
+    (build-returns-2 t)
+    (build-build-cell-requires t)
     (build-same-length-4 t)
     (build-same-length-5 t)
-    (build-returns-3 t)
-    (build-build-cell-requires-2 t)
-    (build-same-length-6 t)
-    (build-same-length-7 t)
-    (build-returns-4 t))
+    (build-returns-3 t))
     (λ t. build-cell-lts.spec (build-cell-calls t) (build-cell-at t) build-cell.Post
     (build-cell-load-requires t)
     (build-cell-enum-known-cell t)
