@@ -1,2 +1,3 @@
 pub mod ValueLaws
 pub mod ReadLaws
+pub mod AcceptedLaws
