@@ -8,8 +8,8 @@ use Prim.Native.Nat.{ℕ}
 use Rattle.rules.specs.Refusals.{Answer}
 use Rattle.rules.specs.Cells.{Block}
 use Rattle.rules.specs.Layout.{Lent}
-use Rattle.rules.specs.Calls.{put-call, setup, text-call, capacity-call, free-call, used-call}
-use Rattle.c_doors.specs.Told.{Told, ToldBlock, ToldSetup, ToldPut}
+use Rattle.rules.specs.Calls.{put-call, collect-call, Stored, cell-store, element-store, eqv-call, setup, text-call, capacity-call, free-call, used-call}
+use Rattle.c_doors.specs.Told.{Told, ToldBlock, ToldSetup, ToldPut, ToldCollect, ToldStore, ToldTruth}
 
 -- ---- any answer that is a number
 
@@ -27,6 +27,27 @@ module _ (l : Lent) (scratch datum : List ℕ) (stood r r' : ℕ) (after after' 
   pub put-determined : ToldPut (put-call l scratch datum) stood r after end n → ToldPut (put-call l scratch datum) stood r' after' end' n' → ((r ≡ r') × (n ≡ n')) × (after ≡ after') × (end ≡ end')
   put-determined one two =
       (told-determined _ stood r r' n n' (one .told-is) (two .told-is), one .lent-is ∙ sym (two .lent-is), one .scratch-is ∙ sym (two .scratch-is))
+
+module _ (l : Lent) (scratch roots : List ℕ) (r r' : ℕ) (after after' : Lent) (end end' : List ℕ) where
+  pub collect-determined : ToldCollect (collect-call l scratch roots) r after end → ToldCollect (collect-call l scratch roots) r' after' end' → (r ≡ r') × (after ≡ after') × (end ≡ end')
+  collect-determined one two =
+      (one .number ∙ sym (two .number), one .lent-is ∙ sym (two .lent-is), one .scratch-is ∙ sym (two .scratch-is))
+
+-- either store
+module _ (x : Stored) (r r' : ℕ) (after after' : Lent) where
+  store-determined : ToldStore x r after → ToldStore x r' after' → (r ≡ r') × (after ≡ after')
+  store-determined one two = (one .number ∙ sym (two .number), one .lent-is ∙ sym (two .lent-is))
+
+module _ (l : Lent) (r r' : ℕ) (after after' : Lent) where
+  pub cell-store-determined : (s kind a b : ℕ) → ToldStore (cell-store l s kind a b) r after → ToldStore (cell-store l s kind a b) r' after' → (r ≡ r') × (after ≡ after')
+  cell-store-determined s kind a b = store-determined (cell-store l s kind a b) r r' after after'
+
+  pub element-store-determined : (s k kind a : ℕ) → ToldStore (element-store l s k kind a) r after → ToldStore (element-store l s k kind a) r' after' → (r ≡ r') × (after ≡ after')
+  element-store-determined s k kind a = store-determined (element-store l s k kind a) r r' after after'
+
+module _ (l : Lent) (kind a kind′ a′ stood r r' n n' : ℕ) where
+  pub eqv-determined : ToldTruth (eqv-call l kind a kind′ a′) stood r n → ToldTruth (eqv-call l kind a kind′ a′) stood r' n' → (r ≡ r') × (n ≡ n')
+  eqv-determined one two = (one .number ∙ sym (two .number), one .second ∙ sym (two .second))
 
 module _ (l : Lent) (s stood stood' r r' p p' n n' : ℕ) where
   pub text-determined : ToldBlock (text-call l s) stood stood' r p n → ToldBlock (text-call l s) stood stood' r' p' n' → (r ≡ r') × (p ≡ p') × (n ≡ n')
