@@ -1,0 +1,3 @@
+pub mod Eqv
+pub mod Levels
+pub mod Runs
