@@ -106,7 +106,7 @@ module _ (h : Heap) where
 
   -- ---- how two values hold, one level up
 
-  data Alike (n : ℕ) : Value → Value → Type 0 where
+  pub data Alike (n : ℕ) : Value → Value → Type 0 where
     by-eqv : {v w : Value} → eqv h v w ≡ true → Alike n v w
     by-walk : {s t a d b f : ℕ} → cell-at h s ≡ pair a d → cell-at h t ≡ pair b f → holds n h (walks s t) ≡ true → Alike n (slot s) (slot t)
     by-elements : {s t : ℕ} {b c : Block} → cell-at h s ≡ vector b → cell-at h t ≡ vector c → length (elements-of h b) ≡ length (elements-of h c) → every (holds n h) (element-by-element (elements-of h b) (elements-of h c)) ≡ true → Alike n (slot s) (slot t)
@@ -144,7 +144,7 @@ module _ (h : Heap) where
     unlike-view (slot s) (scalar y) e = never e
     unlike-view (slot s) (slot t) e = slots-view s t (cell-at h s) (cell-at h t) refl refl e
 
-    alike-view : (v w : Value) → holds (suc n) h (alike v w) ≡ true → Alike n v w
+    pub alike-view : (v w : Value) → holds (suc n) h (alike v w) ≡ true → Alike n v w
     unfolding equal-rules outcome
     alike-view v w e = go (eqv h v w) refl (sym (by-step n (alike v w)) ∙ e)
       where
@@ -165,7 +165,7 @@ module _ (h : Heap) where
     unfolding equal-rules
     slots-hold s t c d p q e = unless-eqv (slot s) (slot t) ((λ i. outcome n (slots-step h s t (p i) (q i))) ∙ e)
 
-    alike-holds : (v w : Value) → Alike n v w → holds (suc n) h (alike v w) ≡ true
+    pub alike-holds : (v w : Value) → Alike n v w → holds (suc n) h (alike v w) ≡ true
     unfolding equal-rules outcome
     alike-holds v w (by-eqv e) = needs-hold n (alike v w) [] (ap (λ (b : Bool). elim b as (λ x. Step) [ true ↦ needs [] | false ↦ unlike-step h v w ]) e) refl
     alike-holds v w (by-walk {s = s} {t = t} {a = a} {d = d} {b = b} {f = f} p q e) =
@@ -178,7 +178,7 @@ module _ (h : Heap) where
 
     -- ---- how a pair walk holds, one level up
 
-    data Walks (s t : ℕ) : Type 0 where
+    pub data Walks (s t : ℕ) : Type 0 where
       by-pairs : {a d b f : ℕ} → cell-at h s ≡ pair a d → cell-at h t ≡ pair b f → holds n h (alike (slot a) (slot b)) ≡ true → holds n h (walks d f) ≡ true → Walks s t
       at-end : is-pair (cell-at h s) ≡ false → eqv-cells h (cell-at h s) (cell-at h t) ≡ true → Walks s t
 
@@ -201,7 +201,7 @@ module _ (h : Heap) where
     cells-view s t (string b) d p q e = at-end (ap is-pair p) ((λ i. eqv-cells h (p i) (q i)) ∙ ends-so (eqv-cells h (string b) d) e)
     cells-view s t (vector b) d p q e = never e
 
-    walks-view : (s t : ℕ) → holds (suc n) h (walks s t) ≡ true → Walks s t
+    pub walks-view : (s t : ℕ) → holds (suc n) h (walks s t) ≡ true → Walks s t
     unfolding equal-rules
     walks-view s t e = cells-view s t (cell-at h s) (cell-at h t) refl refl (sym (by-step n (walks s t)) ∙ e)
 
@@ -213,7 +213,7 @@ module _ (h : Heap) where
     end-holds (string b) d p e = ap (λ (r : Bool). outcome n (holds-if r)) e
     end-holds (vector b) d p e = never e
 
-    walks-hold : (s t : ℕ) → Walks s t → holds (suc n) h (walks s t) ≡ true
+    pub walks-hold : (s t : ℕ) → Walks s t → holds (suc n) h (walks s t) ≡ true
     unfolding equal-rules outcome
     walks-hold s t (by-pairs p q x y) =
         by-step n (walks s t) ∙ (λ i. outcome n (walk-step h (p i) (q i))) ∙ both-true x (both-true y refl)
@@ -391,6 +391,12 @@ module _ (h : Heap) where
   -- what holds at every level fails by no chain
   pub all-holds : (g : Goal) → ((n : ℕ) → holds n h g ≡ true) → Fails h g → ⊥
   all-holds g all f = let low = fails-low g f in true≢false (sym (all (low .0)) ∙ low .1)
+
+  pub equal-holds : (v w : Value) → Equal h v w true → (n : ℕ) → holds n h (alike v w) ≡ true
+  unfolding equal-rules
+  equal-holds v w e n =
+      ⊎-elim (λ p. p) (λ p. absurd (true≢false (e .1 (low-fails n (alike v w) p))))
+      (true-or-false (holds n h (alike v w)))
 
   pub holds-equal : (v w : Value) → ((n : ℕ) → holds n h (alike v w) ≡ true) → Equal h v w true
   unfolding equal-rules
