@@ -7,7 +7,7 @@ use Prim.Native.Nat.{ℕ}
 use native.Mathlib.Omega.{arith}
 use borrow.Author.Tests.{eqb-true, eq-eqb}
 use lib.Dec.{eqb}
-use Rattle.laws.specs.Basics.{both, either, same, basics}
+use Rattle.laws.specs.Basics.{both, same, basics}
 use Rattle.laws.proofs.Tests.{true≢false, both-left, both-right, either-cases, either-left, either-right, same-equal}
 use Rattle.rules.specs.Cells.{Scalar, undefined, nil, eof, void, bool, char, number, Value, slot, scalar, Cell, plain, pair, symbol, string, vector, bit}
 use Rattle.rules.specs.Heap.{Heap, shown, text-of}

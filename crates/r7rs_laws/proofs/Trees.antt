@@ -1,7 +1,7 @@
 -- Values that are `equal` unfold to the same tree, whatever they hold: each level of `equal` settles the paths of half its
 -- length. Document 01, "Equality", beside R7RS small, 6.1. Assumes nothing.
 use mathlib.Core.Path.{_≡_, refl, sym, ap, _∙_}
-use mathlib.Core.Bool.{Bool, true, false}
+use mathlib.Core.Bool.{true}
 use mathlib.Core.List.{List, [], _∷_}
 use mathlib.Core.Logic.{⊎-elim}
 use mathlib.Core.Option.{Option, none, some}
@@ -12,27 +12,27 @@ use Rattle.laws.specs.Basics.{every, basics}
 use Rattle.laws.proofs.Tests.{both-left, both-right}
 use Rattle.rules.specs.Cells.{Value, Block, slot, Cell, plain, pair, symbol, string, vector}
 use Rattle.rules.specs.Heap.{Heap, cell-at, shown, text-of, elements-of}
-use Rattle.rules.specs.Equal.{eqv-cells, eqv, alike, walks, element-by-element, Equal, equal-rules}
+use Rattle.rules.specs.Equal.{eqv-cells, alike, walks, element-by-element, Equal, equal-rules}
 use Rattle.rules.specs.R7rs.{Turn, to-car, to-cdr, to-element, Face, nothing, a-string, a-vector, face, below, unfolded, Same-tree, r7rs-rules}
 use Rattle.equal_laws.specs.Levels.{holds}
-use Rattle.equal_laws.proofs.Eqv.{never, Look, look, a-text, eqv-cells-look, pair-look, eqv-scalars-equal, eqv-cases}
+use Rattle.equal_laws.proofs.Eqv.{never, look, a-text, eqv-cells-look, pair-look, eqv-scalars-equal, eqv-cases}
 use Rattle.equal_laws.proofs.Levels.{Alike, by-eqv, by-walk, by-elements, Walks, by-pairs, at-end, alike-view, walks-view, equal-holds}
 
 module _ (h : Heap) where
   -- ---- the tree by what a value shows
 
   -- what stands down a path from a value, if there is one
-  pub from : Option Value → List Turn → Face
+  from : Option Value → List Turn → Face
   unfolding r7rs-rules
   from none p = nothing
   from (some v) p = unfolded h v p
 
-  pub tree : Cell → List Turn → Face
+  tree : Cell → List Turn → Face
   unfolding r7rs-rules
   tree c [] = face h c
   tree c (t ∷ ts) = from (below h c t) ts
 
-  pub unfolded-is : (v : Value) (p : List Turn) → unfolded h v p ≡ tree (shown h v) p
+  unfolded-is : (v : Value) (p : List Turn) → unfolded h v p ≡ tree (shown h v) p
   unfolding r7rs-rules tree from
   unfolded-is v [] = refl
   unfolded-is v (t ∷ ts) = go (below h (shown h v) t)
@@ -40,6 +40,18 @@ module _ (h : Heap) where
       go : (o : Option Value) → elim o as (λ x. Face) [ none ↦ nothing | some w ↦ unfolded h w ts ] ≡ from o ts
       go none = refl
       go (some w) = refl
+
+  -- what is below the same place of the same trees is the same tree
+  module _ (v w x y : Value) (t : Turn) where
+    pub tree-below : below h (shown h v) t ≡ some x → below h (shown h w) t ≡ some y → Same-tree h v w → Same-tree h x y
+    unfolding r7rs-rules tree from
+    tree-below e f same p =
+        sym (unfolded-is v (t ∷ p) ∙ ap (λ (o : Option Value). from o p) e) ∙ same (t ∷ p)
+        ∙ unfolded-is w (t ∷ p) ∙ ap (λ (o : Option Value). from o p) f
+
+  pub tree-face : (v w : Value) → Same-tree h v w → face h (shown h v) ≡ face h (shown h w)
+  unfolding r7rs-rules
+  tree-face v w same = same []
 
   -- cells that are `eqv` have the same tree
   eqv-tree : (c d : Cell) → eqv-cells h c d ≡ true → (p : List Turn) → tree c p ≡ tree d p
