@@ -6,7 +6,7 @@ use mathlib.Core.List.{List, [], _∷_, List·Memᴰ, List·Memᴰ·head, List·
 use mathlib.Core.Logic.{_⊎_, inl, inr, ⊎-elim}
 use Prim.Native.Nat.{ℕ, zero, suc}
 use native.Mathlib.Omega.{arith}
-use borrow.Author.Tests.{eqb-true, eq-eqb}
+use borrow.Author.Tests.{eqb-true}
 use lib.Dec.{eqb}
 use lib.ListN.{length}
 use Rattle.laws.specs.Basics.{both, every, basics}
@@ -15,6 +15,7 @@ use Rattle.rules.specs.Cells.{Block, Value, slot, scalar, Cell, plain, pair, sy
 use Rattle.rules.specs.Heap.{Heap, cell-at, shown, elements-of}
 use Rattle.rules.specs.Equal.{eqv-cells, eqv, Goal, alike, walks, Step, fails, needs, holds-if, element-by-element, slots-step, unlike-step, walk-step, step, Fails, now, later, Equal, equal-rules}
 use Rattle.equal_laws.specs.Levels.{holds}
+use Rattle.equal_laws.proofs.Steps.{step-eqv, step-unlike, unlike-slots, step-walks, one-length}
 use Rattle.equal_laws.proofs.Eqv.{never, look, eqv-cells-look, eqv-cells-sym, eqv-cells-trans, pair-look, eqv-cases, slot-eqv, eqv-sym, eqv-trans}
 
 -- ---- every, by its members
@@ -154,27 +155,23 @@ module _ (h : Heap) where
 
     -- and back: each way makes it hold
     unless-eqv : (v w : Value) → outcome n (unlike-step h v w) ≡ true → holds (suc n) h (alike v w) ≡ true
-    unfolding equal-rules outcome
-    unless-eqv v w e = by-step n (alike v w) ∙ go (eqv h v w)
+    unfolding outcome basics
+    unless-eqv v w e = go (eqv h v w) refl
       where
-        go : (b : Bool) → outcome n (elim b as (λ x. Step) [ true ↦ needs [] | false ↦ unlike-step h v w ]) ≡ true
-        go true = refl
-        go false = e
+        go : (b : Bool) → eqv h v w ≡ b → holds (suc n) h (alike v w) ≡ true
+        go true q = needs-hold n (alike v w) [] (step-eqv h v w q) refl
+        go false q = by-step n (alike v w) ∙ ap (outcome n) (step-unlike h v w q) ∙ e
 
     slots-hold : (s t : ℕ) (c d : Cell) → cell-at h s ≡ c → cell-at h t ≡ d → outcome n (slots-step h s t c d) ≡ true → holds (suc n) h (alike (slot s) (slot t)) ≡ true
-    unfolding equal-rules
-    slots-hold s t c d p q e = unless-eqv (slot s) (slot t) ((λ i. outcome n (slots-step h s t (p i) (q i))) ∙ e)
+    slots-hold s t c d p q e = unless-eqv (slot s) (slot t) (ap (outcome n) (unlike-slots h s t c d p q) ∙ e)
 
     pub alike-holds : (v w : Value) → Alike n v w → holds (suc n) h (alike v w) ≡ true
     unfolding equal-rules outcome
-    alike-holds v w (by-eqv e) = needs-hold n (alike v w) [] (ap (λ (b : Bool). elim b as (λ x. Step) [ true ↦ needs [] | false ↦ unlike-step h v w ]) e) refl
+    alike-holds v w (by-eqv e) = needs-hold n (alike v w) [] (step-eqv h v w e) refl
     alike-holds v w (by-walk {s = s} {t = t} {a = a} {d = d} {b = b} {f = f} p q e) =
         slots-hold s t (pair a d) (pair b f) p q (both-true e refl)
     alike-holds v w (by-elements {s = s} {t = t} {b = b} {c = c} p q l e) =
-        slots-hold s t (vector b) (vector c) p q
-        (ap (λ (r : Bool). outcome n (elim r as (λ x. Step) [ true ↦ needs (element-by-element (elements-of h b) (elements-of h c)) | false ↦ fails ]))
-        (eq-eqb (length (elements-of h b)) (length (elements-of h c)) l)
-        ∙ e)
+        slots-hold s t (vector b) (vector c) p q (ap (outcome n) (one-length (elements-of h b) (elements-of h c) l) ∙ e)
 
     -- ---- how a pair walk holds, one level up
 
@@ -215,8 +212,8 @@ module _ (h : Heap) where
 
     pub walks-hold : (s t : ℕ) → Walks s t → holds (suc n) h (walks s t) ≡ true
     unfolding equal-rules outcome
-    walks-hold s t (by-pairs p q x y) =
-        by-step n (walks s t) ∙ (λ i. outcome n (walk-step h (p i) (q i))) ∙ both-true x (both-true y refl)
+    walks-hold s t (by-pairs {a = a} {d = d} {b = b} {f = f} p q x y) =
+        by-step n (walks s t) ∙ ap (outcome n) (step-walks h s t (pair a d) (pair b f) p q) ∙ both-true x (both-true y refl)
     walks-hold s t (at-end p e) = by-step n (walks s t) ∙ end-holds (cell-at h s) (cell-at h t) p e
 
   -- cells that are `eqv` are both pairs or neither is
@@ -282,7 +279,8 @@ module _ (h : Heap) where
   unfolding holds equal-rules
   same-walk zero s r t p e = refl
   same-walk (suc n) s r t p e =
-      by-step n (walks r t) ∙ ap (λ (c : Cell). outcome n (walk-step h c (cell-at h t))) (sym p)
+      by-step n (walks r t)
+      ∙ ap (outcome n) (step-walks h r t (cell-at h s) (cell-at h t) (sym p) refl)
       ∙ sym (by-step n (walks s t)) ∙ e
 
   -- only a pair is `eqv` to a pair, and only a vector's own slot to it
