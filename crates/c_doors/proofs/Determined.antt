@@ -8,8 +8,8 @@ use Prim.Native.Nat.{ℕ}
 use Rattle.rules.specs.Refusals.{Answer}
 use Rattle.rules.specs.Cells.{Block}
 use Rattle.rules.specs.Layout.{Lent}
-use Rattle.rules.specs.Calls.{put-call, collect-call, Stored, cell-store, element-store, eqv-call, setup, text-call, capacity-call, free-call, used-call}
-use Rattle.c_doors.specs.Told.{Told, ToldBlock, ToldSetup, ToldPut, ToldCollect, ToldStore, ToldTruth}
+use Rattle.rules.specs.Calls.{put-call, read-call, collect-call, Stored, cell-store, element-store, eqv-call, setup, text-call, capacity-call, free-call, used-call}
+use Rattle.c_doors.specs.Told.{Told, ToldBlock, ToldSetup, ToldPut, ToldRead, ToldCollect, ToldStore, ToldTruth}
 
 -- ---- any answer that is a number
 
@@ -27,6 +27,11 @@ module _ (l : Lent) (scratch datum : List ℕ) (stood r r' : ℕ) (after after' 
   pub put-determined : ToldPut (put-call l scratch datum) stood r after end n → ToldPut (put-call l scratch datum) stood r' after' end' n' → ((r ≡ r') × (n ≡ n')) × (after ≡ after') × (end ≡ end')
   put-determined one two =
       (told-determined _ stood r r' n n' (one .told-is) (two .told-is), one .lent-is ∙ sym (two .lent-is), one .scratch-is ∙ sym (two .scratch-is))
+
+module _ (l : Lent) (scratch out : List ℕ) (kind a stood r r' : ℕ) (end end' after after' : List ℕ) (n n' : ℕ) where
+  pub read-determined : ToldRead (read-call l scratch out kind a) stood r end after n → ToldRead (read-call l scratch out kind a) stood r' end' after' n' → ((r ≡ r') × (n ≡ n')) × (end ≡ end') × (after ≡ after')
+  read-determined one two =
+      (told-determined _ stood r r' n n' (one .told-is) (two .told-is), one .scratch-is ∙ sym (two .scratch-is), one .out-is ∙ sym (two .out-is))
 
 module _ (l : Lent) (scratch roots : List ℕ) (r r' : ℕ) (after after' : Lent) (end end' : List ℕ) where
   pub collect-determined : ToldCollect (collect-call l scratch roots) r after end → ToldCollect (collect-call l scratch roots) r' after' end' → (r ≡ r') × (after ≡ after') × (end ≡ end')

@@ -8,14 +8,16 @@ use Rattle.leaf_cells.proofs.KindLaws.{bool-word}
 use Rattle.rules.specs.Refusals.{Refusal, Answer, accepted, refused, told, number-of}
 use Rattle.rules.specs.Cells.{Block, block, bit}
 use Rattle.rules.specs.Layout.{Lent}
-use Rattle.rules.specs.Calls.{Left, left, Set-up, Stored, stored}
+use Rattle.rules.specs.Calls.{Left, left, Set-up, Read-left, Stored, stored}
 use Rattle.doors.specs.Answers.{setup-answer, set-up, collect-answer, store-answer}
 use Rattle.doors.specs.declared.CollectAnswer.{CollectAnswer}
 use Rattle.doors.specs.declared.CollectAnswer.the-variants as collects
 use Rattle.doors.specs.declared.StoreAnswer.{StoreAnswer}
 use Rattle.doors.specs.declared.StoreAnswer.the-variants as stores
 use Rattle.doors.specs.declared.SetupAnswer.{SetupAnswer}
-use Rattle.c_doors.specs.Told.{given, Told, ToldBlock, ToldSetup, ToldPut, ToldCollect, ToldStore, ToldTruth}
+use Rattle.doors_read.specs.Answers.{read-answer, read-left}
+use Rattle.doors_read.specs.declared.ReadAnswer.{ReadAnswer}
+use Rattle.c_doors.specs.Told.{given, Told, ToldBlock, ToldSetup, ToldPut, ToldRead, ToldCollect, ToldStore, ToldTruth}
 
 -- ---- one number
 
@@ -70,6 +72,14 @@ told-put x a stood r after end n e t =
       told-is = told-same a stood (x .answer) r n (ap (λ (y : Left ℕ). y .answer) e) t;
       lent-is = ap (λ (y : Left ℕ). y .lent) e;
       scratch-is = ap (λ (y : Left ℕ). y .scratch) e;
+    }
+
+pub told-read : (x : Read-left) (a : ReadAnswer) (stood r : ℕ) (end out : List ℕ) (n : ℕ) → read-left a end out ≡ x → Told (read-answer a) stood r n → ToldRead x stood r end out n
+told-read x a stood r end out n e t =
+    record {
+      told-is = told-same (read-answer a) stood (x .answer) r n (ap (λ (y : Read-left). y .answer) e) t;
+      scratch-is = ap (λ (y : Read-left). y .scratch) e;
+      out-is = ap (λ (y : Read-left). y .out) e;
     }
 
 -- ---- the collection, the stores and eqv

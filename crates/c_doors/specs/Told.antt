@@ -8,7 +8,7 @@ use Prim.Native.Nat.{ℕ}
 use Rattle.rules.specs.Refusals.{Answer, accepted, refused, told}
 use Rattle.rules.specs.Cells.{Block, bit}
 use Rattle.rules.specs.Layout.{Lent}
-use Rattle.rules.specs.Calls.{Left, Set-up, Stored}
+use Rattle.rules.specs.Calls.{Left, Set-up, Read-left, Stored}
 
 -- a number of what was asked for, or what stood there
 unfoldable pub given {ℓ} : {A : Type 0} {B : Type ℓ} → (A → B) → Answer A → B → B
@@ -36,6 +36,12 @@ pub record ToldPut (x : Left ℕ) (stood r : ℕ) (after : Lent) (end : List ℕ
   pub told-is : Told (x .answer) stood r n
   pub lent-is : after ≡ x .lent
   pub scratch-is : end ≡ x .scratch
+
+-- read: the number, the scratch, the output and the length
+pub record ToldRead (x : Read-left) (stood r : ℕ) (end out : List ℕ) (n : ℕ) : Type 0 where
+  pub told-is : Told (x .answer) stood r n
+  pub scratch-is : end ≡ x .scratch
+  pub out-is : out ≡ x .out
 
 -- collection: the number, the lists and the scratch
 pub record ToldCollect (x : Left (Unit {0})) (r : ℕ) (after : Lent) (end : List ℕ) : Type 0 where

@@ -3,10 +3,11 @@
 // what was asked for through its last parameters: "A refusal answers its number only, and leaves heap and output as they stood."
 ghost use mathlib.Core.Path.{_≡_};
 ghost use Rattle.rules.specs.Refusals.{told};
-ghost use Rattle.rules.specs.Calls.{setup, put-call, collect-call, cell-store, element-store, eqv-call, text-call, capacity-call, free-call, used-call};
+ghost use Rattle.rules.specs.Calls.{setup, put-call, read-call, collect-call, cell-store, element-store, eqv-call, text-call, capacity-call, free-call, used-call};
 ghost use Rattle.heap_sound_rows.specs.Rows.{lists};
 ghost use Rattle.doors.specs.Answers.{put-answer, collect-answer, store-answer, eqv-answer, count-answer, block-answer};
-ghost use Rattle.c_doors.specs.Told.{Told, ToldBlock, ToldSetup, ToldPut, ToldCollect, ToldStore, ToldTruth};
+ghost use Rattle.doors_read.specs.Answers.{read-answer};
+ghost use Rattle.c_doors.specs.Told.{Told, ToldBlock, ToldSetup, ToldPut, ToldRead, ToldCollect, ToldStore, ToldTruth};
 
 // "10 | setup, which gives no other": a fresh heap in the lent lists, whatever they held.
 #[no_mangle]
@@ -60,6 +61,43 @@ pub extern "C" fn talvongre_put(
 {
     let a = doors::put(words, map, bytes, elems, scratch, datum);
     tell_slot(a, slot)
+}
+
+// A read's answer by number, and its length.
+fn tell_length(a: doors_read::ReadAnswer, length: &mut u64) -> u32
+    ensures { λ r. ⌜ Told (read-answer a) (now (length .entry)) r (now (length .exit)) ⌝ }
+{
+    match a {
+        doors_read::ReadAnswer::Length(n) => {
+            *length = n;
+            0
+        }
+        doors_read::ReadAnswer::Unsound => 20,
+        doors_read::ReadAnswer::ShortScratch => 19,
+        doors_read::ReadAnswer::Malformed(_) => 11,
+        doors_read::ReadAnswer::OverLimit => 12,
+        doors_read::ReadAnswer::NoSuchSlot => 14,
+        doors_read::ReadAnswer::ShortOutput => 18,
+    }
+}
+
+// Reads a value into the lent output: 20, 19, 11, 12, 14 or 18, or 0 and the length written.
+#[no_mangle]
+pub extern "C" fn talvongre_read(
+    words: &[u64],
+    map: &[u8],
+    bytes: &[u8],
+    elems: &[u64],
+    scratch: &mut [u64],
+    out: &mut [u8],
+    kind: u64,
+    a: u64,
+    length: &mut u64,
+) -> u32
+    ensures { λ r. ⌜ ToldRead (read-call (lists (now (words .entry)) (now (map .entry)) (now (bytes .entry)) (now (elems .entry))) (now (scratch .entry)) (now (out .entry)) kind a) (now (length .entry)) r (now (scratch .exit)) (now (out .exit)) (now (length .exit)) ⌝ }
+{
+    let x = doors_read::read(words, map, bytes, elems, scratch, out, kind, a);
+    tell_length(x, length)
 }
 
 // A collection's answer by number.

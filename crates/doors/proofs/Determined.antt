@@ -7,15 +7,14 @@ use mathlib.Core.List.{List}
 use Prim.Native.Nat.{ℕ}
 use lib.Dec.{eqb}
 use Rattle.laws.specs.Basics.{choose}
-use Rattle.rules.specs.Refusals.{Fault, unknown-kind, cut-short, left-over, bad-bool, bad-char, bad-utf8, Refusal, bad-setup, unsound, short-scratch, malformed, over-limit, early-label, no-such-slot, wrong-cell, no-slots, no-room, short-output, Answer, accepted, refused, told, number-of}
+use Rattle.rules.specs.Refusals.{Refusal, bad-setup, unsound, short-scratch, malformed, over-limit, early-label, no-such-slot, wrong-cell, no-slots, no-room, short-output, Answer, accepted, refused, told, number-of}
 use Rattle.rules.specs.Cells.{Block}
 use Rattle.rules.specs.Layout.{Lent}
 use Rattle.rules.specs.Calls.{Left, left, put-call, collect-call, Set-up, setup, text-call, text-part, text-told, capacity-call, free-call, Stored, stored, cell-store, element-store, eqv-call}
 use Rattle.doors.specs.declared.SetupAnswer.{SetupAnswer}
 use Rattle.doors.specs.declared.SetupAnswer.the-variants as setups
 use Rattle.leaf_nodes.specs.declared.Fault as code
-use Rattle.leaf_nodes.specs.declared.Fault.the-variants as faults
-use Rattle.leaf_nodes.specs.Reads.{fault-of}
+use Rattle.heap_given.proofs.FaultLaws.{from-fault, fault-back}
 use Rattle.doors.specs.declared.PutAnswer.{PutAnswer}
 use Rattle.doors.specs.declared.PutAnswer.the-variants as puts
 use Rattle.doors.specs.declared.CollectAnswer.{CollectAnswer}
@@ -78,23 +77,6 @@ module _ (chunk : ℕ) (l : Lent) (r r' : SetupAnswer) (after after' : Lent) (on
       (sym (setup-back r) ∙ ap (λ (x : Set-up). from-setup (x .answer)) same ∙ setup-back r', ap (λ (x : Set-up). x .lent) same)
 
 -- ---- put
-
-from-fault : Fault → code.Fault
-from-fault unknown-kind = faults.UnknownKind
-from-fault cut-short = faults.CutShort
-from-fault left-over = faults.LeftOver
-from-fault bad-bool = faults.BadBool
-from-fault bad-char = faults.BadChar
-from-fault bad-utf8 = faults.BadUtf8
-
-fault-back : (f : code.Fault) → from-fault (fault-of f) ≡ f
-unfolding from-fault
-fault-back faults.UnknownKind = refl
-fault-back faults.CutShort = refl
-fault-back faults.LeftOver = refl
-fault-back faults.BadBool = refl
-fault-back faults.BadChar = refl
-fault-back faults.BadUtf8 = refl
 
 -- of the refusals that put does not give none is asked for
 refused-put : Refusal → PutAnswer

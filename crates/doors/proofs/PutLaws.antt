@@ -39,14 +39,6 @@ pub ready : (l : Lent) (scratch : List ℕ) → sound l ≡ true → ltb (length
 unfolding header
 ready l scratch e s = record { lists-sound = e; room = omega (arith, ltb-false (length scratch) (scratch-words (getD (l .words) 1 0)) s, capacity-lent l) }
 
--- a sound heap's header, and its capacity there
-pub header-there : (l : Lent) → sound l ≡ true → 8 ≤ length (l .words)
-header-there l e = omega (arith, bounds l (clauses l e) .words)
-
-pub capacity-small : (l : Lent) → sound l ≡ true → getD (l .words) 1 0 ≤ 4096
-unfolding header
-capacity-small l e = omega (arith, bounds l (clauses l e) .capacity, bounds l (clauses l e) .most)
-
 -- the heap's own answer told as the door's
 pub answered : (a b : Answer ℕ) (l : Lent) (s : List ℕ) (x : Left ℕ) → a ≡ b → left b l s ≡ x → left a l s ≡ x
 answered a b l s x e p = ap (λ (y : Answer ℕ). left y l s) e ∙ p

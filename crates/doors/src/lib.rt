@@ -3,9 +3,7 @@
 // heap and output as they stood." Allocating, freeing and marking are no calls.
 ghost use mathlib.Core.Path.{_≡_};
 ghost use mathlib.Core.Bool.{true};
-ghost use lib.Dec.{ltb};
 ghost use lib.ListN.{length, getD};
-ghost use Rattle.rules.specs.Numbers.{scratch-words};
 ghost use Rattle.rules.specs.Refusals.{told};
 ghost use Rattle.rules.specs.Sound.{sound};
 ghost use Rattle.rules.specs.Calls.{left, put-call, collect-call, setup, text-in, text-call, text-part, text-told, capacity-call, free-call, stored, cell-store, element-store, eqv-call};
@@ -38,14 +36,6 @@ pub fn setup(
     }
     heap_setup::fresh(words, map, bytes, elems, chunk as usize);
     SetupAnswer::Done
-}
-
-// "19 | scratch shorter than the formula", for the capacity of a sound heap.
-fn scratch_short(words: &[u64], map: &[u8], bytes: &[u8], elems: &[u64], scratch: usize) -> bool
-    requires { ⌜ sound (lists (now words) (now map) (now bytes) (now elems)) ≡ true ⌝ }
-    ensures { λ r. ⌜ r ≡ ltb scratch (scratch-words (getD (now (words .entry)) 1 0)) ⌝ }
-{
-    scratch < 8 * words[1] as usize + 128
 }
 
 // What a put answers: the datum's slot, or 20, 19, 11 with what is wrong and at which node, 12, 13, 16 or 17.
@@ -88,7 +78,7 @@ pub fn put(
     if !heap_sound::is_sound(words, map, bytes, elems) {
         return PutAnswer::Unsound;
     }
-    if scratch_short(words, map, bytes, elems, scratch.len()) {
+    if heap_given::scratch_short(words, map, bytes, elems, scratch.len()) {
         return PutAnswer::ShortScratch;
     }
     put_answer(heap_put_whole::put(words, map, bytes, elems, scratch, datum))
@@ -116,7 +106,7 @@ pub fn collect(
     if !heap_sound::is_sound(words, map, bytes, elems) {
         return CollectAnswer::Unsound;
     }
-    if scratch_short(words, map, bytes, elems, scratch.len()) {
+    if heap_given::scratch_short(words, map, bytes, elems, scratch.len()) {
         return CollectAnswer::ShortScratch;
     }
     if !heap_mark::roots_in_use(words, map, roots) {

@@ -1,1 +1,3 @@
+pub mod FaultLaws
 pub mod GivenLaws
+pub mod HeaderLaws

@@ -1,14 +1,20 @@
 // Values that a caller gives, as a kind's number and its fields. Document 01: "11 | datum or given scalar malformed", "Cell
 // store: a scalar or a pair of used slots", "Element store: a scalar or a used slot. Any other kind given is 11." Fields that the
 // kind has not are not looked at. Then whether the slots that a given value or cell names are in use: "14 | a slot given is past
-// the capacity or Free".
+// the capacity or Free"; and whether the scratch that is lent is long enough.
 use leaf_cells::VCell;
 use leaf_cells::Value;
 use leaf_nodes::Fault;
 ghost use mathlib.Core.Path.{_≡_};
+ghost use mathlib.Core.Bool.{true};
+ghost use lib.Dec.{ltb};
+ghost use lib.ListN.{getD};
+ghost use Rattle.rules.specs.Numbers.{scratch-words};
+ghost use Rattle.rules.specs.Sound.{sound};
 ghost use Rattle.rules.specs.Calls.{given-scalar, given-value, given-cell};
 ghost use Rattle.leaf_cells.specs.Cells.{cell-of};
 ghost use Rattle.leaf_cells.specs.Elements.{value-of};
+ghost use Rattle.heap_sound_rows.specs.Rows.{lists};
 ghost use Rattle.heap_sound_cells.specs.Looked.{named};
 ghost use Rattle.heap_given.specs.Given.{scalar-answer, value-answer, cell-answer, cell-named};
 
@@ -103,4 +109,12 @@ pub fn cell_in_use(map: &[u8], capacity: usize, c: VCell) -> bool
         }
         _ => true,
     }
+}
+
+// "19 | scratch shorter than the formula", for the capacity of a sound heap.
+pub fn scratch_short(words: &[u64], map: &[u8], bytes: &[u8], elems: &[u64], scratch: usize) -> bool
+    requires { ⌜ sound (lists (now words) (now map) (now bytes) (now elems)) ≡ true ⌝ }
+    ensures { λ r. ⌜ r ≡ ltb scratch (scratch-words (getD (now (words .entry)) 1 0)) ⌝ }
+{
+    scratch < 8 * words[1] as usize + 128
 }

@@ -9,7 +9,6 @@ use lib.Seq.{length-take-le}
 use Rattle.laws.specs.Basics.{zeros}
 use Rattle.rules.specs.Layout.{Lent, header, map-bytes}
 use Rattle.rules.specs.Sound.{sound}
-use Rattle.rules.proofs.SoundLaws.{clauses, bounds}
 use Rattle.heap_sound_rows.specs.Rows.{lists}
 use Rattle.sheet_run.specs.declared.Ran.{Ran}
 use Rattle.sheet_run.specs.declared.Ran.the-variants as ran
@@ -18,14 +17,6 @@ use Rattle.sheet_run.specs.Running.{Rooms-lent, ran-so, RanSo}
 -- a part has the length that was asked for
 pub part-long : (n : ℕ) (l : List ℕ) → n ≤ length l → n ≡ length (take n l)
 part-long n l h = sym (length-take-le n l h)
-
--- a sound heap has a header, and its capacity is small
-pub header-there : (l : Lent) → sound l ≡ true → 1 < length (l .words)
-header-there l e = omega (arith, bounds l (clauses l e) .words)
-
-pub capacity-small : (l : Lent) → sound l ≡ true → getD (l .words) 1 0 ≤ 4096
-unfolding header
-capacity-small l e = omega (arith, bounds l (clauses l e) .capacity, bounds l (clauses l e) .most)
 
 -- what a run that is to be listed left
 pub record Left (words map bytes elems roots : List ℕ) (slots count : ℕ) : Type 0 where

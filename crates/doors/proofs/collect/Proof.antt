@@ -2,7 +2,7 @@
 use mathlib.Core.Path.{_≡_, sym, _∙_}
 use borrow.Author.Tests.{not-true, not-false}
 use Rattle.heap_sound_rows.specs.Rows.{lists}
-use Rattle.doors.proofs.PutLaws.{header-there}
+use Rattle.heap_given.proofs.HeaderLaws.{header-there}
 use Rattle.doors.proofs.CollectLaws.{asked, fours, collect-unsound, collect-short, collect-no-root, collect-ready, collect-done}
 use borrow.Author.Needs.{needs}
 use Rattle.doors.proofs.collect.Statement.{statement}

@@ -4,7 +4,7 @@ use native.Mathlib.Omega.{arith}
 use borrow.Author.Tests.{not-true, not-false}
 use Rattle.leaf_cells.specs.Elements.{value-of}
 use Rattle.heap_sound_rows.specs.Rows.{lists}
-use Rattle.doors.proofs.PutLaws.{header-there}
+use Rattle.heap_given.proofs.HeaderLaws.{header-there}
 use Rattle.doors.proofs.EqvLaws.{comparable, first-free, second-free, compared}
 use borrow.Author.Needs.{needs}
 use Rattle.doors.proofs.eqv_values.Statement.{statement}

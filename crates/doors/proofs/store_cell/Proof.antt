@@ -4,7 +4,7 @@ use native.Mathlib.Omega.{arith}
 use borrow.Author.Tests.{not-true, not-false}
 use Rattle.leaf_cells.specs.Cells.{cell-of}
 use Rattle.heap_sound_rows.specs.Rows.{lists}
-use Rattle.doors.proofs.PutLaws.{header-there}
+use Rattle.heap_given.proofs.HeaderLaws.{header-there}
 use Rattle.doors.proofs.StoreLaws.{ready, cell-slot-free, cell-names-free, cell-passed}
 use borrow.Author.Needs.{needs}
 use Rattle.doors.proofs.store_cell.Statement.{statement}
