@@ -14,7 +14,7 @@ use Rattle.rules.specs.Calls.{given-value, of-answer, value-in-use, eqv-call}
 use Rattle.heap_sound_cells.specs.Looked.{named}
 use Rattle.heap_given.proofs.GivenLaws.{value-used}
 use Rattle.heap_eqv.specs.Eqv.{Comparable}
-use Rattle.doors.specs.Behind.{eqv-behind, second-behind}
+use Rattle.doors_equal.specs.Behind.{eqv-behind, second-behind}
 
 -- ---- 20, and 11 of the first value
 

@@ -1,14 +1,14 @@
--- `doors::eqv_values`: 14 of either value, then the comparison. Assumes nothing.
+-- `doors_equal::eqv_values`: 14 of either value, then the comparison. Assumes nothing.
 use mathlib.Core.Path.{sym, _∙_}
 use native.Mathlib.Omega.{arith}
 use borrow.Author.Tests.{not-true, not-false}
 use Rattle.leaf_cells.specs.Elements.{value-of}
 use Rattle.heap_sound_rows.specs.Rows.{lists}
 use Rattle.heap_given.proofs.HeaderLaws.{header-there}
-use Rattle.doors.proofs.EqvLaws.{comparable, first-free, second-free, compared}
+use Rattle.doors_equal.proofs.EqvLaws.{comparable, first-free, second-free, compared}
 use borrow.Author.Needs.{needs}
-use Rattle.doors.proofs.eqv_values.Statement.{statement}
-use Rattle.doors.proofs.eqv_values.Tie as tie
+use Rattle.doors_equal.proofs.eqv_values.Statement.{statement}
+use Rattle.doors_equal.proofs.eqv_values.Tie as tie
 
 shared-slice-read-capacity : tie.Need-shared-slice-read-capacity
 shared-slice-read-capacity c = omega (arith, header-there (lists (c .before .before .before .before .before .args .words .now) (c .before .before .before .before .before .args .map .now) (c .before .before .before .before .before .args .bytes .now) (c .before .before .before .before .before .args .elems .now)) (c .before .before .before .before .before .pre))

@@ -1,14 +1,14 @@
--- `doors::store_cell`: 14 of the slot, then of what is given, then the heap's own store. Assumes nothing.
+-- `doors_store::store_cell`: 14 of the slot, then of what is given, then the heap's own store. Assumes nothing.
 use mathlib.Core.Path.{sym, _∙_}
 use native.Mathlib.Omega.{arith}
 use borrow.Author.Tests.{not-true, not-false}
 use Rattle.leaf_cells.specs.Cells.{cell-of}
 use Rattle.heap_sound_rows.specs.Rows.{lists}
 use Rattle.heap_given.proofs.HeaderLaws.{header-there}
-use Rattle.doors.proofs.StoreLaws.{ready, cell-slot-free, cell-names-free, cell-passed}
+use Rattle.doors_store.proofs.StoreLaws.{ready, cell-slot-free, cell-names-free, cell-passed}
 use borrow.Author.Needs.{needs}
-use Rattle.doors.proofs.store_cell.Statement.{statement}
-use Rattle.doors.proofs.store_cell.Tie as tie
+use Rattle.doors_store.proofs.store_cell.Statement.{statement}
+use Rattle.doors_store.proofs.store_cell.Tie as tie
 
 slice-read-capacity : tie.Need-slice-read-capacity
 slice-read-capacity c = omega (arith, header-there (lists (c .before .before .before .before .before .args .words .now) (c .before .before .before .before .before .args .map .now) (c .before .before .before .before .before .args .bytes .now) (c .before .before .before .before .before .args .elems .now)) (c .before .before .before .before .before .pre))

@@ -1,12 +1,12 @@
--- `doors::collect`: 20, then 19, then 14, then the collection. Assumes nothing.
+-- `doors_collect::collect`: 20, then 19, then 14, then the collection. Assumes nothing.
 use mathlib.Core.Path.{_≡_, sym, _∙_}
 use borrow.Author.Tests.{not-true, not-false}
 use Rattle.heap_sound_rows.specs.Rows.{lists}
 use Rattle.heap_given.proofs.HeaderLaws.{header-there}
-use Rattle.doors.proofs.CollectLaws.{asked, fours, collect-unsound, collect-short, collect-no-root, collect-ready, collect-done}
+use Rattle.doors_collect.proofs.CollectLaws.{asked, fours, collect-unsound, collect-short, collect-no-root, collect-ready, collect-done}
 use borrow.Author.Needs.{needs}
-use Rattle.doors.proofs.collect.Statement.{statement}
-use Rattle.doors.proofs.collect.Tie as tie
+use Rattle.doors_collect.proofs.collect.Statement.{statement}
+use Rattle.doors_collect.proofs.collect.Tie as tie
 
 is-sound-requires : tie.Need-is-sound-requires
 is-sound-requires c κs = search needs

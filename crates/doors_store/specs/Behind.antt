@@ -1,15 +1,14 @@
--- What a call does behind its first tests: the rules' own text of the call, from where what was given is a cell or a value. Assumes
+-- What a store does behind its first tests: the rules' own text of the call, from where what was given is a cell or a value. Assumes
 -- nothing.
-use mathlib.Core.Bool.{Bool, not}
+use mathlib.Core.Bool.{not}
 use mathlib.Core.List.{[], _∷_}
 use Prim.Native.Nat.{ℕ}
 use Rattle.laws.specs.Basics.{both}
-use Rattle.rules.specs.Refusals.{no-such-slot, wrong-cell, Answer, accepted, refused, _⇒_, unless, refusals}
+use Rattle.rules.specs.Refusals.{no-such-slot, wrong-cell, accepted, refused, _⇒_, unless, refusals}
 use Rattle.rules.specs.Cells.{Value, Cell, is-symbol}
 use Rattle.rules.specs.Heap.{cell-at, in-use, with-cell}
 use Rattle.rules.specs.Layout.{Lent, rooms-of, heap-of, lent-of}
-use Rattle.rules.specs.Equal.{eqv}
-use Rattle.rules.specs.Calls.{Stored, stored, given-value, of-answer, value-in-use, cell-in-use, store-element}
+use Rattle.rules.specs.Calls.{Stored, stored, value-in-use, cell-in-use, store-element}
 
 -- a cell store behind 20 and 11: 14, 15
 unfoldable pub cell-behind : Lent → ℕ → Cell → Stored
@@ -28,15 +27,3 @@ element-behind l s k v =
     unless ((not (both (in-use h s) (value-in-use h v)) ⇒ no-such-slot) ∷ [])
     (store-element l h s k v)
     (λ r. stored (refused r) l)
-
--- `eqv` behind 20 and 11: 14
-unfoldable pub eqv-behind : Lent → Value → Value → Answer Bool
-unfolding refusals
-eqv-behind l v w =
-    let h = heap-of l in
-    unless ((not (both (value-in-use h v) (value-in-use h w)) ⇒ no-such-slot) ∷ []) (accepted (eqv h v w)) (λ r. refused r)
-
--- `eqv` behind 20 and the first value's 11: the second's 11, 14
-unfoldable pub second-behind : Lent → Value → ℕ → ℕ → Answer Bool
-unfolding eqv-behind of-answer
-second-behind l v kind a = of-answer (given-value kind a) (λ w. eqv-behind l v w) (λ r. refused r)

@@ -1,14 +1,14 @@
--- `doors::store_element`: 14 of the slot, then of what is given, then the heap's own store. Assumes nothing.
+-- `doors_store::store_element`: 14 of the slot, then of what is given, then the heap's own store. Assumes nothing.
 use mathlib.Core.Path.{sym, _∙_}
 use native.Mathlib.Omega.{arith}
 use borrow.Author.Tests.{not-true, not-false}
 use Rattle.leaf_cells.specs.Elements.{value-of}
 use Rattle.heap_sound_rows.specs.Rows.{lists}
 use Rattle.heap_given.proofs.HeaderLaws.{header-there}
-use Rattle.doors.proofs.StoreLaws.{ready, element-slot-free, element-name-free, element-passed}
+use Rattle.doors_store.proofs.StoreLaws.{ready, element-slot-free, element-name-free, element-passed}
 use borrow.Author.Needs.{needs}
-use Rattle.doors.proofs.store_element.Statement.{statement}
-use Rattle.doors.proofs.store_element.Tie as tie
+use Rattle.doors_store.proofs.store_element.Statement.{statement}
+use Rattle.doors_store.proofs.store_element.Tie as tie
 
 shared-slice-read-capacity : tie.Need-shared-slice-read-capacity
 shared-slice-read-capacity c = omega (arith, header-there (lists (c .before .before .before .before .before .args .words .now) (c .before .before .before .before .before .args .map .now) (c .before .before .before .before .before .args .bytes .now) (c .before .before .before .before .before .args .elems .now)) (c .before .before .before .before .before .pre))

@@ -1,12 +1,12 @@
--- `doors::eqv`: 20, then 11 of the first value, then what is behind them. Assumes nothing.
+-- `doors_equal::eqv`: 20, then 11 of the first value, then what is behind them. Assumes nothing.
 use mathlib.Core.Path.{sym, ap, _∙_}
 use borrow.Author.Tests.{not-true, not-false}
 use Rattle.heap_sound_rows.specs.Rows.{lists}
 use Rattle.heap_given.specs.Given.{value-answer}
-use Rattle.doors.proofs.EqvLaws.{eqv-unsound, first-malformed, first-accepted}
+use Rattle.doors_equal.proofs.EqvLaws.{eqv-unsound, first-malformed, first-accepted}
 use borrow.Author.Needs.{needs}
-use Rattle.doors.proofs.eqv.Statement.{statement}
-use Rattle.doors.proofs.eqv.Tie as tie
+use Rattle.doors_equal.proofs.eqv.Statement.{statement}
+use Rattle.doors_equal.proofs.eqv.Tie as tie
 
 is-sound-requires : tie.Need-is-sound-requires
 is-sound-requires c κs = search needs

@@ -1,12 +1,12 @@
--- `doors::element_store`: 20, then 11, then what is behind them. Assumes nothing.
+-- `doors_store::element_store`: 20, then 11, then what is behind them. Assumes nothing.
 use mathlib.Core.Path.{refl, sym, ap, _∙_}
 use borrow.Author.Tests.{not-true, not-false}
 use Rattle.heap_sound_rows.specs.Rows.{lists}
 use Rattle.heap_given.specs.Given.{value-answer}
-use Rattle.doors.proofs.StoreLaws.{element-unsound, element-malformed, element-accepted}
+use Rattle.doors_store.proofs.StoreLaws.{element-unsound, element-malformed, element-accepted}
 use borrow.Author.Needs.{needs}
-use Rattle.doors.proofs.element_store.Statement.{statement}
-use Rattle.doors.proofs.element_store.Tie as tie
+use Rattle.doors_store.proofs.element_store.Statement.{statement}
+use Rattle.doors_store.proofs.element_store.Tie as tie
 
 is-sound-requires : tie.Need-is-sound-requires
 is-sound-requires c κs = search needs

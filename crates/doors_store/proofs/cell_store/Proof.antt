@@ -1,12 +1,12 @@
--- `doors::cell_store`: 20, then 11, then what is behind them. Assumes nothing.
+-- `doors_store::cell_store`: 20, then 11, then what is behind them. Assumes nothing.
 use mathlib.Core.Path.{refl, sym, ap, _∙_}
 use borrow.Author.Tests.{not-true, not-false}
 use Rattle.heap_sound_rows.specs.Rows.{lists}
 use Rattle.heap_given.specs.Given.{cell-answer}
-use Rattle.doors.proofs.StoreLaws.{cell-unsound, cell-malformed, cell-accepted}
+use Rattle.doors_store.proofs.StoreLaws.{cell-unsound, cell-malformed, cell-accepted}
 use borrow.Author.Needs.{needs}
-use Rattle.doors.proofs.cell_store.Statement.{statement}
-use Rattle.doors.proofs.cell_store.Tie as tie
+use Rattle.doors_store.proofs.cell_store.Statement.{statement}
+use Rattle.doors_store.proofs.cell_store.Tie as tie
 
 is-sound-requires : tie.Need-is-sound-requires
 is-sound-requires c κs = search needs

@@ -18,7 +18,7 @@ use Rattle.rules.specs.Calls.{Left, left, cleared, collect-call}
 use Rattle.rules.proofs.SoundLaws.{clauses, capacity-lent, capacity-fours}
 use Rattle.heap_sound_rows.specs.Rows.{lists}
 use Rattle.heap_collect.specs.Ready.{Ready}
-use Rattle.doors.proofs.CheckedLaws.{checked-unsound, checked-short, checked-on}
+use Rattle.heap_given.proofs.CheckedLaws.{checked-unsound, checked-short, checked-on}
 
 -- the roots are asked of the words and the map alone
 pub asked : (words map bytes elems roots : List ℕ) → every (in-use (heap-of (lists words map [] []))) roots ≡ every (in-use (heap-of (lists words map bytes elems))) roots

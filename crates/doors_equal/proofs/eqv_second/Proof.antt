@@ -1,12 +1,12 @@
--- `doors::eqv_second`: 11 of the second value, then both. Assumes nothing.
+-- `doors_equal::eqv_second`: 11 of the second value, then both. Assumes nothing.
 use mathlib.Core.Path.{sym, ap, _∙_}
 use Rattle.leaf_cells.specs.Elements.{value-of}
 use Rattle.heap_sound_rows.specs.Rows.{lists}
 use Rattle.heap_given.specs.Given.{value-answer}
-use Rattle.doors.proofs.EqvLaws.{second-malformed, second-accepted}
+use Rattle.doors_equal.proofs.EqvLaws.{second-malformed, second-accepted}
 use borrow.Author.Needs.{needs}
-use Rattle.doors.proofs.eqv_second.Statement.{statement}
-use Rattle.doors.proofs.eqv_second.Tie as tie
+use Rattle.doors_equal.proofs.eqv_second.Statement.{statement}
+use Rattle.doors_equal.proofs.eqv_second.Tie as tie
 
 given-value-requires : tie.Need-given-value-requires
 given-value-requires c κs = search needs

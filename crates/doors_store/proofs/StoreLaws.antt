@@ -15,7 +15,7 @@ use Rattle.heap_sound_cells.specs.Looked.{used-slot, named}
 use Rattle.heap_given.specs.Given.{cell-named}
 use Rattle.heap_given.proofs.GivenLaws.{in-use-lent, value-used, cell-used}
 use Rattle.heap_store.specs.Stores.{Ready, store-cell}
-use Rattle.doors.specs.Behind.{cell-behind, element-behind}
+use Rattle.doors_store.specs.Behind.{cell-behind, element-behind}
 
 -- ---- 20 and 11
 
