@@ -1,5 +1,5 @@
-/* A host in C over the linked library: the deepest data, each put in a thread of 2 MiB whose stack is painted beforehand, so
- * that the bytes used can be read off afterwards; then the times of the soundness check and of put. Document 01, "Numbers":
+/* A host in C over the linked library: the deepest data, each put, read and collected in a thread of 2 MiB whose stack is painted
+ * beforehand, so that the bytes used can be read off afterwards; then the times of the soundness check and of put. Document 01, "Numbers":
  * a datum has 4,096 nodes, so none is nested deeper. Answers and stack are tests; times are printed only. First each call
  * once, accepted and refused, as a host makes it. */
 #define _GNU_SOURCE
@@ -39,18 +39,18 @@ struct heap {
 
 static struct heap heap, fresh, before;
 static uint64_t scratch[TALVONGRE_SCRATCH_WORDS(MOST_SLOTS)];
-static uint8_t datum[1 << 20];
+static uint8_t datum[1 << 20], out[1 << 20];
 static size_t datum_len;
 
 #define LISTS(h)                                                                                                             \
     (h)->words, TALVONGRE_WORDS((h)->slots), (h)->map, TALVONGRE_MAP_BYTES((h)->slots), (h)->bytes, (h)->bytes_len,          \
         (h)->elems, TALVONGRE_ELEMENT_WORDS((h)->elements)
 
-enum what { NOTHING, SETUP, USED, TEXT, PUT };
+enum what { NOTHING, SETUP, USED, TEXT, PUT, READ, COLLECT };
 
 struct call {
     enum what what;
-    uint64_t given; /* a chunk or a slot */
+    uint64_t given; /* a chunk, a slot or the one root */
     uint32_t answer;
     uint64_t result;
 };
@@ -73,6 +73,12 @@ static void *run(void *at) {
         break;
     case PUT:
         c->answer = talvongre_put(LISTS(&heap), scratch, TALVONGRE_SCRATCH_WORDS(heap.slots), datum, datum_len, &c->result);
+        break;
+    case READ:
+        c->answer = talvongre_read(LISTS(&heap), scratch, TALVONGRE_SCRATCH_WORDS(heap.slots), out, sizeof out, 15, c->given, &c->result);
+        break;
+    case COLLECT:
+        c->answer = talvongre_collect(LISTS(&heap), scratch, TALVONGRE_SCRATCH_WORDS(heap.slots), &c->given, 1);
         break;
     }
     return NULL;
@@ -260,7 +266,7 @@ static int scratch_zero(void) {
     return 1;
 }
 
-static void deep_put(enum shape shape, uint64_t chunk) {
+static uint64_t deep_put(enum shape shape, uint64_t chunk) {
     char title[80];
     set_up(MOST_SLOTS, MOST_BYTES, MOST_ELEMENTS, chunk);
     size_t depth = deepest(shape, MOST_NODES);
@@ -270,8 +276,66 @@ static void deep_put(enum shape shape, uint64_t chunk) {
     test(c.answer == TALVONGRE_OK, "refused", title);
     test(c.result == expected_root(chunk), "another slot", title);
     test(scratch_zero(), "scratch not zero", title);
+    uint64_t root = c.result;
     c = call(USED, 0);
     test(c.answer == TALVONGRE_OK && c.result == taken, "another used count", title);
+    return root;
+}
+
+/* What was put, in slot `root`, is read back, before and after a collection that keeps it: the same bytes, where it has no label. */
+static void deep_read(enum shape shape, uint64_t root) {
+    char title[80];
+    static uint8_t first_out[sizeof out];
+    size_t depth = deepest(shape, MOST_NODES);
+    int plain = shape == CARS || shape == CDRS || shape == VECTORS;
+    snprintf(title, sizeof title, "read, %s", names[shape]);
+    memset(out, 0, sizeof out);
+    struct call c = in_thread(READ, root, title, depth);
+    test(c.answer == TALVONGRE_OK && c.result > 0, "refused", title);
+    test(!plain || (c.result == datum_len && memcmp(out, datum, datum_len) == 0), "another datum", title);
+    uint64_t length = c.result;
+    memcpy(first_out, out, sizeof out);
+    snprintf(title, sizeof title, "collect, %s", names[shape]);
+    test(in_thread(COLLECT, root, title, depth).answer == TALVONGRE_OK, "refused", title);
+    memset(out, 0, sizeof out);
+    c = call(READ, root);
+    test(c.answer == TALVONGRE_OK && c.result == length && memcmp(out, first_out, sizeof out) == 0, "another reading", title);
+    test(scratch_zero(), "scratch not zero", title);
+}
+
+/* A ring of so many vectors of one: the longest path, and a label on it. */
+static void deep_ring(void) {
+    set_up(MOST_SLOTS, MOST_BYTES, MOST_ELEMENTS, MOST_SLOTS);
+    start();
+    label(12, 0);
+    for (size_t i = 0; i + 2 < MOST_NODES; i++) {
+        byte(10);
+        four(1);
+    }
+    label(13, 0);
+    struct call c = call(PUT, 0);
+    test(c.answer == TALVONGRE_OK, "refused", "put, a ring of vectors");
+    uint64_t root = c.result;
+    c = in_thread(READ, root, "read, a ring of vectors", MOST_NODES - 2);
+    test(c.answer == TALVONGRE_OK && c.result == datum_len && memcmp(out, datum, datum_len) == 0, "another datum", "read, a ring of vectors");
+    test(in_thread(COLLECT, root, "collect, a ring of vectors", MOST_NODES - 2).answer == TALVONGRE_OK, "refused", "collect, a ring of vectors");
+}
+
+/* Every slot a pair that names the next one twice, which unfolds to more nodes than a datum has, along the longest path that a
+ * heap has: 12, and soon. */
+static void unfolding(void) {
+    set_up(MOST_SLOTS, MOST_BYTES, MOST_ELEMENTS, MOST_SLOTS);
+    start();
+    nil();
+    for (int i = 0; i < MOST_SLOTS; i++) call(PUT, 0);
+    for (uint64_t at = 0; at < MOST_SLOTS; at++) {
+        uint64_t next = (at + 1) % MOST_SLOTS;
+        test(talvongre_cell_store(LISTS(&heap), at, 9, next, next) == TALVONGRE_OK, "refused", "store");
+    }
+    fresh = heap;
+    struct call c = in_thread(READ, 0, "read, a path of all slots, without end", MOST_SLOTS);
+    test(c.answer == TALVONGRE_OVER_LIMIT && c.result == UINT64_MAX, "another answer", "read of very many nodes");
+    test(same_lists(&heap, &fresh), "lists changed", "read of very many nodes");
 }
 
 /* Deep data that are refused change nothing. */
@@ -289,7 +353,9 @@ static void stacks(void) {
     set_up(MOST_SLOTS, MOST_BYTES, MOST_ELEMENTS, MOST_SLOTS);
     in_thread(NOTHING, 0, "a thread alone", 0);
     test(in_thread(SETUP, MOST_SLOTS, "setup", 0).answer == TALVONGRE_OK, "refused", "setup");
-    for (int shape = 0; shape < SHAPES; shape++) deep_put((enum shape)shape, MOST_SLOTS);
+    for (int shape = 0; shape < SHAPES; shape++) deep_read((enum shape)shape, deep_put((enum shape)shape, MOST_SLOTS));
+    deep_ring();
+    unfolding();
     test(in_thread(USED, 0, "used: the soundness check alone", 0).answer == TALVONGRE_OK, "refused", "used");
     test(in_thread(TEXT, 0, "text", 0).answer == TALVONGRE_WRONG_CELL, "another answer", "text");
     for (int shape = 0; shape < SHAPES; shape++) deep_put((enum shape)shape, MOST_SLOTS / 2);
@@ -332,6 +398,12 @@ static void calls(void) {
     test(talvongre_capacity(LISTS(&heap), &n) == TALVONGRE_OK && n == 4, "count", "capacity");
     test(talvongre_free(LISTS(&heap), &n) == TALVONGRE_OK && n == 1, "count", "free");
     test(talvongre_used(LISTS(&heap), &n) == TALVONGRE_OK && n == 3, "count", "used");
+    c = call(READ, 1);
+    test(c.answer == TALVONGRE_OK && c.result == 11 && memcmp(out, "\x07\x06\0\0\0string", 11) == 0, "string", "read");
+    c = call(READ, 3);
+    test(c.answer == TALVONGRE_NO_SUCH_SLOT && c.result == UINT64_MAX, "Free", "read");
+    test(talvongre_read(LISTS(&heap), scratch, TALVONGRE_SCRATCH_WORDS(4), out, 10, 15, 1, &n) == TALVONGRE_SHORT_OUTPUT && n == 3, "output", "read");
+    test(talvongre_read(LISTS(&heap), scratch, TALVONGRE_SCRATCH_WORDS(4), out, 11, 4, 2, &n) == TALVONGRE_MALFORMED && n == 3, "Bool", "read");
     put_datum_of(7, "bytes 7");
     c = call(PUT, 0);
     test(c.answer == TALVONGRE_NO_ROOM && c.result == UINT64_MAX, "room", "put");

@@ -12,15 +12,15 @@
  * memory, and nothing else may write to them while the call runs. The heap is in the lists alone: they may be kept, copied
  * and moved between calls, and calls on different heaps may run side by side.
  *
- * SCRATCH. Put and the collection take a list of words to work in: at capacity c at least 8c + 128 words, TALVONGRE_SCRATCH_WORDS(c). On return
- * all of it is zero, whatever it held; only after 19 and 20 it is as it was.
+ * SCRATCH. Put, read and the collection take a list of words to work in: at capacity c at least 8c + 128 words,
+ * TALVONGRE_SCRATCH_WORDS(c). On return all of it is zero, whatever it held; only after 19 and 20 it is as it was.
  *
  * ANSWERS. Each call answers TALVONGRE_OK or the number of a refusal. Every call but setup first sees whether the lists are a
  * sound heap, whatever they hold, and answers 20 where they are not; then where several refusals apply the first in the order
  * below is answered. After a refusal the lists are as they were, and what a call would have written through its last
  * parameters, which may not be NULL, is not written.
  *
- * THE STACK. A put goes as deep as its datum, which is at most 4,095 vectors or labels in one another: give a thread that
+ * THE STACK. A put or a read goes as deep as its datum, which is at most 4,095 vectors or labels in one another: give a thread that
  * calls 2 MiB of stack. host/run.sh measures what is used of it.
  */
 #ifndef TALVONGRE_H
@@ -40,12 +40,13 @@ extern "C" {
 #define TALVONGRE_UNSOUND 20       /* the lent lists are not a sound heap */
 #define TALVONGRE_SHORT_SCRATCH 19 /* scratch shorter than the formula */
 #define TALVONGRE_MALFORMED 11     /* datum or given value: unknown kind, cut short, nodes left over, Bool not 0 or 1, Char or UTF-8 not allowed */
-#define TALVONGRE_OVER_LIMIT 12    /* datum: over 4,096 nodes, 64 labels, 1,024 elements, 4,096 bytes of a string, 255 of a name */
+#define TALVONGRE_OVER_LIMIT 12    /* datum, given or to be read: over 4,096 nodes, 64 labels, 1,024 elements, 4,096 bytes of a string, 255 of a name */
 #define TALVONGRE_EARLY_LABEL 13   /* a label is referred to before a definition of it has begun */
 #define TALVONGRE_NO_SUCH_SLOT 14  /* a slot given is past the capacity or Free */
 #define TALVONGRE_WRONG_CELL 15    /* text: neither string nor symbol; cell store: the slot holds a symbol; element store: no vector, no such element */
 #define TALVONGRE_NO_SLOTS 16      /* the slots needed exceed the free ones plus all growth that fits */
 #define TALVONGRE_NO_ROOM 17       /* an arena has less room than needed */
+#define TALVONGRE_SHORT_OUTPUT 18  /* output shorter than the answer */
 
 /* Lengths of the lent lists for n slots and e elements, and of the scratch at capacity c (at most n), in members. */
 #define TALVONGRE_WORDS(n) (8 + 8 * (size_t)(n))
@@ -77,6 +78,15 @@ uint32_t talvongre_setup(uint64_t *words, size_t words_len, uint8_t *map, size_t
 uint32_t talvongre_put(uint64_t *words, size_t words_len, uint8_t *map, size_t map_len, uint8_t *bytes, size_t bytes_len,
                        uint64_t *elems, size_t elems_len, uint64_t *scratch, size_t scratch_len, const uint8_t *datum,
                        size_t datum_len, uint64_t *slot);
+
+/* Reads a value, a slot (kind 15, the slot in a) or a scalar (kinds 0 to 6, its field in a), into `out` as the bytes of a datum that
+ * put takes, and writes their number to *length. A slot met again on its own path is a label's definition at first meeting and a
+ * reference later, numbered from 0; what is shared without a cycle is written out again in full; identifiers are read as symbols.
+ * Past the answer `out` stays as it was, and after a refusal all of it.
+ * Answers 0, 20, 19, 11, 12, 14 or 18. */
+uint32_t talvongre_read(const uint64_t *words, size_t words_len, const uint8_t *map, size_t map_len, const uint8_t *bytes,
+                        size_t bytes_len, const uint64_t *elems, size_t elems_len, uint64_t *scratch, size_t scratch_len,
+                        uint8_t *out, size_t out_len, uint64_t kind, uint64_t a, uint64_t *length);
 
 /* Collects: keeps what the roots reach and frees the rest, in rising order; packs both arenas by lowest slot, each block once, and
  * clears what is behind them. The roots are slots; there may be none, and one may be named twice. A pair leads to its car and cdr, a

@@ -34,4 +34,9 @@ fn main() {
         println!("cargo:rerun-if-changed={}", place.join(file).display());
     }
     println!("cargo:rustc-env=MARWOOD={}", place.display());
+    if env::var("CARGO_FEATURE_PORT").is_ok() {
+        let library = here.join("../target/staticlib/libc_doors.a");
+        println!("cargo:rerun-if-changed={}", library.display());
+        println!("cargo:rustc-link-arg-bin=beside={}", library.display());
+    }
 }

@@ -9,11 +9,13 @@ use Rattle.rules.specs.Refusals.{Refusal, Answer, accepted, refused, told, numb
 use Rattle.rules.specs.Cells.{Block, block, bit}
 use Rattle.rules.specs.Layout.{Lent}
 use Rattle.rules.specs.Calls.{Left, left, Set-up, Read-left, Stored, stored}
-use Rattle.doors.specs.Answers.{setup-answer, set-up, collect-answer, store-answer}
-use Rattle.doors.specs.declared.CollectAnswer.{CollectAnswer}
-use Rattle.doors.specs.declared.CollectAnswer.the-variants as collects
-use Rattle.doors.specs.declared.StoreAnswer.{StoreAnswer}
-use Rattle.doors.specs.declared.StoreAnswer.the-variants as stores
+use Rattle.doors.specs.Answers.{setup-answer, set-up}
+use Rattle.doors_collect.specs.Answers.{collect-answer}
+use Rattle.doors_store.specs.Answers.{store-answer}
+use Rattle.doors_collect.specs.declared.CollectAnswer.{CollectAnswer}
+use Rattle.doors_collect.specs.declared.CollectAnswer.the-variants as collects
+use Rattle.doors_store.specs.declared.StoreAnswer.{StoreAnswer}
+use Rattle.doors_store.specs.declared.StoreAnswer.the-variants as stores
 use Rattle.doors.specs.declared.SetupAnswer.{SetupAnswer}
 use Rattle.doors_read.specs.Answers.{read-answer, read-left}
 use Rattle.doors_read.specs.declared.ReadAnswer.{ReadAnswer}

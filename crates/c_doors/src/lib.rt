@@ -5,7 +5,10 @@ ghost use mathlib.Core.Path.{_≡_};
 ghost use Rattle.rules.specs.Refusals.{told};
 ghost use Rattle.rules.specs.Calls.{setup, put-call, read-call, collect-call, cell-store, element-store, eqv-call, text-call, capacity-call, free-call, used-call};
 ghost use Rattle.heap_sound_rows.specs.Rows.{lists};
-ghost use Rattle.doors.specs.Answers.{put-answer, collect-answer, store-answer, eqv-answer, count-answer, block-answer};
+ghost use Rattle.doors.specs.Answers.{put-answer, count-answer, block-answer};
+ghost use Rattle.doors_collect.specs.Answers.{collect-answer};
+ghost use Rattle.doors_store.specs.Answers.{store-answer};
+ghost use Rattle.doors_equal.specs.Answers.{eqv-answer};
 ghost use Rattle.doors_read.specs.Answers.{read-answer};
 ghost use Rattle.c_doors.specs.Told.{Told, ToldBlock, ToldSetup, ToldPut, ToldRead, ToldCollect, ToldStore, ToldTruth};
 
@@ -101,14 +104,14 @@ pub extern "C" fn talvongre_read(
 }
 
 // A collection's answer by number.
-fn tell_collect(a: doors::CollectAnswer) -> u32
+fn tell_collect(a: doors_collect::CollectAnswer) -> u32
     ensures { λ r. ⌜ r ≡ told (collect-answer a) ⌝ }
 {
     match a {
-        doors::CollectAnswer::Done => 0,
-        doors::CollectAnswer::Unsound => 20,
-        doors::CollectAnswer::ShortScratch => 19,
-        doors::CollectAnswer::NoSuchSlot => 14,
+        doors_collect::CollectAnswer::Done => 0,
+        doors_collect::CollectAnswer::Unsound => 20,
+        doors_collect::CollectAnswer::ShortScratch => 19,
+        doors_collect::CollectAnswer::NoSuchSlot => 14,
     }
 }
 
@@ -124,20 +127,20 @@ pub extern "C" fn talvongre_collect(
 ) -> u32
     ensures { λ r. ⌜ ToldCollect (collect-call (lists (now (words .entry)) (now (map .entry)) (now (bytes .entry)) (now (elems .entry))) (now (scratch .entry)) (now (roots .entry))) r (lists (now (words .exit)) (now (map .exit)) (now (bytes .exit)) (now (elems .exit))) (now (scratch .exit)) ⌝ }
 {
-    let a = doors::collect(words, map, bytes, elems, scratch, roots);
+    let a = doors_collect::collect(words, map, bytes, elems, scratch, roots);
     tell_collect(a)
 }
 
 // A store's answer by number.
-fn tell_store(a: doors::StoreAnswer) -> u32
+fn tell_store(a: doors_store::StoreAnswer) -> u32
     ensures { λ r. ⌜ r ≡ told (store-answer a) ⌝ }
 {
     match a {
-        doors::StoreAnswer::Done => 0,
-        doors::StoreAnswer::Unsound => 20,
-        doors::StoreAnswer::Malformed(_) => 11,
-        doors::StoreAnswer::NoSuchSlot => 14,
-        doors::StoreAnswer::WrongCell => 15,
+        doors_store::StoreAnswer::Done => 0,
+        doors_store::StoreAnswer::Unsound => 20,
+        doors_store::StoreAnswer::Malformed(_) => 11,
+        doors_store::StoreAnswer::NoSuchSlot => 14,
+        doors_store::StoreAnswer::WrongCell => 15,
     }
 }
 
@@ -155,7 +158,7 @@ pub extern "C" fn talvongre_cell_store(
 ) -> u32
     ensures { λ r. ⌜ ToldStore (cell-store (lists (now (words .entry)) (now (map .entry)) (now (bytes .entry)) (now (elems .entry))) slot kind a b) r (lists (now (words .exit)) (now (map .entry)) (now (bytes .entry)) (now (elems .entry))) ⌝ }
 {
-    let x = doors::cell_store(words, map, bytes, elems, slot, kind, a, b);
+    let x = doors_store::cell_store(words, map, bytes, elems, slot, kind, a, b);
     tell_store(x)
 }
 
@@ -173,22 +176,22 @@ pub extern "C" fn talvongre_element_store(
 ) -> u32
     ensures { λ r. ⌜ ToldStore (element-store (lists (now (words .entry)) (now (map .entry)) (now (bytes .entry)) (now (elems .entry))) slot k kind a) r (lists (now (words .entry)) (now (map .entry)) (now (bytes .entry)) (now (elems .exit))) ⌝ }
 {
-    let x = doors::element_store(words, map, bytes, elems, slot, k, kind, a);
+    let x = doors_store::element_store(words, map, bytes, elems, slot, k, kind, a);
     tell_store(x)
 }
 
 // The answer of `eqv` by number, and 1 or 0 for yes or no.
-fn tell_eqv(a: doors::EqvAnswer, truth: &mut u64) -> u32
+fn tell_eqv(a: doors_equal::EqvAnswer, truth: &mut u64) -> u32
     ensures { λ r. ⌜ ToldTruth (eqv-answer a) (now (truth .entry)) r (now (truth .exit)) ⌝ }
 {
     match a {
-        doors::EqvAnswer::Truth(t) => {
+        doors_equal::EqvAnswer::Truth(t) => {
             *truth = t as u64;
             0
         }
-        doors::EqvAnswer::Unsound => 20,
-        doors::EqvAnswer::Malformed(_) => 11,
-        doors::EqvAnswer::NoSuchSlot => 14,
+        doors_equal::EqvAnswer::Unsound => 20,
+        doors_equal::EqvAnswer::Malformed(_) => 11,
+        doors_equal::EqvAnswer::NoSuchSlot => 14,
     }
 }
 
@@ -207,7 +210,7 @@ pub extern "C" fn talvongre_eqv(
 ) -> u32
     ensures { λ r. ⌜ ToldTruth (eqv-call (lists (now (words .entry)) (now (map .entry)) (now (bytes .entry)) (now (elems .entry))) kind a kind2 a2) (now (truth .entry)) r (now (truth .exit)) ⌝ }
 {
-    let x = doors::eqv(words, map, bytes, elems, kind, a, kind2, a2);
+    let x = doors_equal::eqv(words, map, bytes, elems, kind, a, kind2, a2);
     tell_eqv(x, truth)
 }
 

@@ -2,7 +2,6 @@
 -- the same answer and the same lent lists at exit, refusals too. A list lent only to read stays as it is. Document 01, "Each
 -- public call's promise determines the answer and every lent byte afterwards". Assumes nothing.
 use mathlib.Core.Path.{_≡_, refl, sym, ap, _∙_}
-use mathlib.Core.Bool.{Bool}
 use mathlib.Core.List.{List}
 use Prim.Native.Nat.{ℕ}
 use lib.Dec.{eqb}
@@ -10,26 +9,20 @@ use Rattle.laws.specs.Basics.{choose}
 use Rattle.rules.specs.Refusals.{Refusal, bad-setup, unsound, short-scratch, malformed, over-limit, early-label, no-such-slot, wrong-cell, no-slots, no-room, short-output, Answer, accepted, refused, told, number-of}
 use Rattle.rules.specs.Cells.{Block}
 use Rattle.rules.specs.Layout.{Lent}
-use Rattle.rules.specs.Calls.{Left, left, put-call, collect-call, Set-up, setup, text-call, text-part, text-told, capacity-call, free-call, Stored, stored, cell-store, element-store, eqv-call}
+use Rattle.rules.specs.Calls.{Left, left, put-call, Set-up, setup, text-call, text-part, text-told, capacity-call, free-call}
 use Rattle.doors.specs.declared.SetupAnswer.{SetupAnswer}
 use Rattle.doors.specs.declared.SetupAnswer.the-variants as setups
 use Rattle.leaf_nodes.specs.declared.Fault as code
 use Rattle.heap_given.proofs.FaultLaws.{from-fault, fault-back}
 use Rattle.doors.specs.declared.PutAnswer.{PutAnswer}
 use Rattle.doors.specs.declared.PutAnswer.the-variants as puts
-use Rattle.doors.specs.declared.CollectAnswer.{CollectAnswer}
-use Rattle.doors.specs.declared.CollectAnswer.the-variants as collects
 use Rattle.doors.specs.declared.CountAnswer.{CountAnswer}
 use Rattle.doors.specs.declared.CountAnswer.the-variants as counts
 use Rattle.doors.specs.declared.TextAnswer.{TextAnswer}
 use Rattle.doors.specs.declared.TextAnswer.the-variants as texts
 use Rattle.doors.specs.declared.TextBlock.{TextBlock}
 use Rattle.doors.specs.declared.TextBlock.the-variants as blocks
-use Rattle.doors.specs.declared.StoreAnswer.{StoreAnswer}
-use Rattle.doors.specs.declared.StoreAnswer.the-variants as stores
-use Rattle.doors.specs.declared.EqvAnswer.{EqvAnswer}
-use Rattle.doors.specs.declared.EqvAnswer.the-variants as eqvs
-use Rattle.doors.specs.Answers.{setup-answer, set-up, put-answer, collect-answer, count-answer, Used, text-answer, block-answer, store-answer, eqv-answer}
+use Rattle.doors.specs.Answers.{setup-answer, set-up, put-answer, count-answer, Used, text-answer, block-answer}
 
 -- ---- each answer of the rules comes from one answer of the code
 
@@ -117,33 +110,6 @@ module _ (l : Lent) (scratch datum : List ℕ) (r r' : PutAnswer) (after after' 
   put-determined =
       (sym (put-back r) ∙ ap (λ (x : Left ℕ). from-put (x .answer)) same-left ∙ put-back r', ap (λ (x : Left ℕ). x .lent) same-left, ap (λ (x : Left ℕ). x .scratch) same-left)
 
--- ---- collection
-
--- of the refusals that a collection does not give none is asked for
-refused-collect : Refusal → CollectAnswer
-refused-collect r =
-    choose (eqb (number-of r) 20) collects.Unsound (choose (eqb (number-of r) 19) collects.ShortScratch collects.NoSuchSlot)
-
-from-collect : Answer (Unit {0}) → CollectAnswer
-unfolding refused-collect
-from-collect (accepted a) = collects.Done
-from-collect (refused r) = refused-collect r
-
-collect-back : (r : CollectAnswer) → from-collect (collect-answer r) ≡ r
-unfolding from-collect number-of
-collect-back collects.Done = refl
-collect-back collects.Unsound = refl
-collect-back collects.ShortScratch = refl
-collect-back collects.NoSuchSlot = refl
-
-module _ (l : Lent) (scratch roots : List ℕ) (r r' : CollectAnswer) (after after' : Lent) (end end' : List ℕ) (one : left (collect-answer r) after end ≡ collect-call l scratch roots) (two : left (collect-answer r') after' end' ≡ collect-call l scratch roots) where
-  same-collected : left (collect-answer r) after end ≡ left (collect-answer r') after' end'
-  same-collected = one ∙ sym two
-
-  pub collect-determined : (r ≡ r') × (after ≡ after') × (end ≡ end')
-  collect-determined =
-      (sym (collect-back r) ∙ ap (λ (x : Left (Unit {0})). from-collect (x .answer)) same-collected ∙ collect-back r', ap (λ (x : Left (Unit {0})). x .lent) same-collected, ap (λ (x : Left (Unit {0})). x .scratch) same-collected)
-
 -- ---- the counts
 
 module _ (l : Lent) (r r' : CountAnswer) where
@@ -183,77 +149,3 @@ block-back blocks.WrongCell = refl
 
 pub text-block-determined : (l : Lent) (s : ℕ) (r r' : TextBlock) → block-answer r ≡ text-call l s → block-answer r' ≡ text-call l s → r ≡ r'
 text-block-determined l s r r' one two = sym (block-back r) ∙ ap from-block (one ∙ sym two) ∙ block-back r'
-
--- ---- the stores
-
--- of the refusals that a store does not give none is asked for
-refused-store : Refusal → StoreAnswer
-unfolding from-fault
-refused-store bad-setup = stores.Unsound
-refused-store unsound = stores.Unsound
-refused-store short-scratch = stores.Unsound
-refused-store (malformed f n) = stores.Malformed (from-fault f)
-refused-store over-limit = stores.Unsound
-refused-store early-label = stores.Unsound
-refused-store no-such-slot = stores.NoSuchSlot
-refused-store wrong-cell = stores.WrongCell
-refused-store no-slots = stores.Unsound
-refused-store no-room = stores.Unsound
-refused-store short-output = stores.Unsound
-
-from-store : Answer (Unit {0}) → StoreAnswer
-unfolding refused-store
-from-store (accepted a) = stores.Done
-from-store (refused r) = refused-store r
-
-store-back : (r : StoreAnswer) → from-store (store-answer r) ≡ r
-unfolding from-store
-store-back stores.Done = refl
-store-back stores.Unsound = refl
-store-back (stores.Malformed f) = ap stores.Malformed (fault-back f)
-store-back stores.NoSuchSlot = refl
-store-back stores.WrongCell = refl
-
--- the lists lent only to read are among those at exit, as they were
-module _ (call : Stored) (r r' : StoreAnswer) (after after' : Lent) (one : stored (store-answer r) after ≡ call) (two : stored (store-answer r') after' ≡ call) where
-  stored-determined : (r ≡ r') × (after ≡ after')
-  stored-determined =
-      (sym (store-back r) ∙ ap (λ (x : Stored). from-store (x .answer)) (one ∙ sym two) ∙ store-back r', ap (λ (x : Stored). x .lent) (one ∙ sym two))
-
-pub cell-store-determined : (l : Lent) (s kind a b : ℕ) (r r' : StoreAnswer) (after after' : Lent) → stored (store-answer r) after ≡ cell-store l s kind a b → stored (store-answer r') after' ≡ cell-store l s kind a b → (r ≡ r') × (after ≡ after')
-cell-store-determined l s kind a b = stored-determined (cell-store l s kind a b)
-
-pub element-store-determined : (l : Lent) (s k kind a : ℕ) (r r' : StoreAnswer) (after after' : Lent) → stored (store-answer r) after ≡ element-store l s k kind a → stored (store-answer r') after' ≡ element-store l s k kind a → (r ≡ r') × (after ≡ after')
-element-store-determined l s k kind a = stored-determined (element-store l s k kind a)
-
--- ---- eqv
-
--- of the refusals that `eqv` does not give none is asked for
-refused-eqv : Refusal → EqvAnswer
-unfolding from-fault
-refused-eqv bad-setup = eqvs.Unsound
-refused-eqv unsound = eqvs.Unsound
-refused-eqv short-scratch = eqvs.Unsound
-refused-eqv (malformed f n) = eqvs.Malformed (from-fault f)
-refused-eqv over-limit = eqvs.Unsound
-refused-eqv early-label = eqvs.Unsound
-refused-eqv no-such-slot = eqvs.NoSuchSlot
-refused-eqv wrong-cell = eqvs.Unsound
-refused-eqv no-slots = eqvs.Unsound
-refused-eqv no-room = eqvs.Unsound
-refused-eqv short-output = eqvs.Unsound
-
-from-eqv : Answer Bool → EqvAnswer
-unfolding refused-eqv
-from-eqv (accepted b) = eqvs.Truth b
-from-eqv (refused r) = refused-eqv r
-
-eqv-back : (r : EqvAnswer) → from-eqv (eqv-answer r) ≡ r
-unfolding from-eqv
-eqv-back (eqvs.Truth b) = refl
-eqv-back eqvs.Unsound = refl
-eqv-back (eqvs.Malformed f) = ap eqvs.Malformed (fault-back f)
-eqv-back eqvs.NoSuchSlot = refl
-
-pub eqv-determined : (l : Lent) (kind a kind′ a′ : ℕ) (r r' : EqvAnswer) → eqv-answer r ≡ eqv-call l kind a kind′ a′ → eqv-answer r' ≡ eqv-call l kind a kind′ a′ → r ≡ r'
-eqv-determined l kind a kind′ a′ r r' one two = sym (eqv-back r) ∙ ap from-eqv (one ∙ sym two) ∙ eqv-back r'

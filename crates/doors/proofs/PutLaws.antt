@@ -16,7 +16,7 @@ use Rattle.rules.specs.Sound.{sound}
 use Rattle.rules.specs.Calls.{Left, left, cleared, put-tree, put-call}
 use Rattle.rules.proofs.SoundLaws.{clauses, bounds, capacity-lent}
 use Rattle.heap_put_whole.specs.Whole.{put-behind, Ready}
-use Rattle.doors.proofs.CheckedLaws.{checked-unsound, checked-short, checked-on}
+use Rattle.heap_given.proofs.CheckedLaws.{checked-unsound, checked-short, checked-on}
 
 module _ (l : Lent) (scratch datum : List ℕ) where
   abbrev behind : Heap → Left ℕ

@@ -1,7 +1,6 @@
 -- What the doors answer, in the rules' words. A caller is told an answer by number: 0, or the refusal's of document 01's table,
 -- which is `told` of rules' Refusals. Assumes nothing.
 use mathlib.Core.Path.{_≡_}
-use mathlib.Core.Bool.{Bool}
 use Rattle.rules.specs.Refusals.{Answer, accepted, refused, bad-setup, unsound, short-scratch, malformed, over-limit, early-label, no-such-slot, wrong-cell, no-slots, no-room}
 use Rattle.rules.specs.Cells.{Block, block}
 use Rattle.rules.specs.Heap.{used-by-map}
@@ -13,18 +12,12 @@ use Rattle.doors.specs.declared.SetupAnswer.{SetupAnswer}
 use Rattle.doors.specs.declared.SetupAnswer.the-variants as setup
 use Rattle.doors.specs.declared.PutAnswer.{PutAnswer}
 use Rattle.doors.specs.declared.PutAnswer.the-variants as put
-use Rattle.doors.specs.declared.CollectAnswer.{CollectAnswer}
-use Rattle.doors.specs.declared.CollectAnswer.the-variants as collect
 use Rattle.doors.specs.declared.CountAnswer.{CountAnswer}
 use Rattle.doors.specs.declared.CountAnswer.the-variants as count
 use Rattle.doors.specs.declared.TextAnswer.{TextAnswer}
 use Rattle.doors.specs.declared.TextAnswer.the-variants as text
 use Rattle.doors.specs.declared.TextBlock.{TextBlock}
 use Rattle.doors.specs.declared.TextBlock.the-variants as part
-use Rattle.doors.specs.declared.StoreAnswer.{StoreAnswer}
-use Rattle.doors.specs.declared.StoreAnswer.the-variants as store
-use Rattle.doors.specs.declared.EqvAnswer.{EqvAnswer}
-use Rattle.doors.specs.declared.EqvAnswer.the-variants as eqv
 
 -- setup: 10 only
 abbrev pub setup-answer : SetupAnswer → Answer (Unit {0})
@@ -45,13 +38,6 @@ put-answer put.OverLimit = refused over-limit
 put-answer put.EarlyLabel = refused early-label
 put-answer put.NoSlots = refused no-slots
 put-answer put.NoRoom = refused no-room
-
--- collection: 20, 19, 14
-abbrev pub collect-answer : CollectAnswer → Answer (Unit {0})
-collect-answer collect.Done = accepted tt
-collect-answer collect.Unsound = refused unsound
-collect-answer collect.ShortScratch = refused short-scratch
-collect-answer collect.NoSuchSlot = refused no-such-slot
 
 -- a count: 20
 abbrev pub count-answer : CountAnswer → Answer ℕ
@@ -76,18 +62,3 @@ block-answer (part.Held place size) = accepted (block place size)
 block-answer part.Unsound = refused unsound
 block-answer part.NoSuchSlot = refused no-such-slot
 block-answer part.WrongCell = refused wrong-cell
-
--- a store: 20, 11, 14, 15; what a caller gives is one node, of number 0
-abbrev pub store-answer : StoreAnswer → Answer (Unit {0})
-store-answer store.Done = accepted tt
-store-answer store.Unsound = refused unsound
-store-answer (store.Malformed f) = refused (malformed (fault-of f) 0)
-store-answer store.NoSuchSlot = refused no-such-slot
-store-answer store.WrongCell = refused wrong-cell
-
--- eqv: 20, 11, 14
-abbrev pub eqv-answer : EqvAnswer → Answer Bool
-eqv-answer (eqv.Truth b) = accepted b
-eqv-answer eqv.Unsound = refused unsound
-eqv-answer (eqv.Malformed f) = refused (malformed (fault-of f) 0)
-eqv-answer eqv.NoSuchSlot = refused no-such-slot

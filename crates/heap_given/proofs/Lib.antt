@@ -1,3 +1,4 @@
+pub mod CheckedLaws
 pub mod FaultLaws
 pub mod GivenLaws
 pub mod HeaderLaws

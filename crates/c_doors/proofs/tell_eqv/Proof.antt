@@ -1,7 +1,7 @@
 -- `c_doors::tell_eqv`: case by case. Assumes nothing.
 use mathlib.Core.Path.{sym, ap, _∙_}
 use Rattle.rules.specs.Refusals.{unsound, no-such-slot, number-of}
-use Rattle.doors.specs.Answers.{eqv-answer}
+use Rattle.doors_equal.specs.Answers.{eqv-answer}
 use Rattle.c_doors.proofs.ToldLaws.{told-truth, no-truth}
 use borrow.Author.Needs.{needs}
 use Rattle.c_doors.proofs.tell_eqv.Statement.{statement}
