@@ -25,7 +25,7 @@ use Rattle.rules.proofs.GoodSound.{sound-good}
 use Rattle.heap_sound_rows.specs.Rows.{lists}
 use Rattle.heap_sound_rows.proofs.HeapFacts.{cells-length, elements-length}
 use Rattle.heap_mark.specs.Marks.{is-marked, linked, leads, Rowed, CanMark}
-use Rattle.heap_mark.proofs.Reach.{every-member, marked-keeps}
+use Rattle.collect_laws.proofs.Reach.{every-member, marked-keeps}
 
 -- ---- heaps that lead alike are marked alike
 

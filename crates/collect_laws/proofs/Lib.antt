@@ -1,0 +1,4 @@
+pub mod Reach
+pub mod Sweeping
+pub mod Packings
+pub mod Placing
