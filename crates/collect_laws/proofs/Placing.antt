@@ -165,7 +165,7 @@ module _ {A : Type 0} (old : List A) (shows : ℕ → Block) (apart-all : (s t :
     unfolding moved-block
     to-some b k e = ap (λ (o : Option ℕ). elim o as (λ o. Block) [ none ↦ block 0 (b .size) | some j ↦ block j (b .size) ]) e
 
-    to-none : (b : Block) → b .size ≡ 0 → moved-block b (packed n .moved) ≡ block 0 0
+    pub to-none : (b : Block) → b .size ≡ 0 → moved-block b (packed n .moved) ≡ block 0 0
     unfolding moved-block
     to-none b e =
         ap (λ (o : Option ℕ). elim o as (λ o. Block) [ none ↦ block 0 (b .size) | some j ↦ block j (b .size) ])
