@@ -6,3 +6,5 @@ pub mod Placing
 pub mod PackedCells
 pub mod SweptHeap
 pub mod Collected
+pub mod Reading
+pub mod Comparing
