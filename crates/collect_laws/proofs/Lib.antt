@@ -8,3 +8,6 @@ pub mod SweptHeap
 pub mod Collected
 pub mod Reading
 pub mod Comparing
+pub mod CellsGood
+pub mod Entries
+pub mod CollectGood
