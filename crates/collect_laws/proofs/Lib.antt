@@ -8,6 +8,8 @@ pub mod SweptHeap
 pub mod Collected
 pub mod Reading
 pub mod Comparing
+pub mod KeptSame
 pub mod CellsGood
 pub mod Entries
 pub mod CollectGood
+pub mod CollectSound
