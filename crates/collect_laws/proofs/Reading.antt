@@ -139,5 +139,5 @@ module _ (h k : Heap) (roots : List ℕ) (same : (s : ℕ) → Reached h roots s
         elim (leb (length (labels-same v x i)) most-labels) [
           | false ↦ none
           | true ↦ reading-of ((ap (λ (ls : List ℕ). build most-nodes k ls v (record { left = most-nodes; begun = [] })) (labels-same v x)
-            ∙ build-same most-nodes (labels-for h v) v (record { left = most-nodes; begun = [] }) x) i)
+              ∙ build-same most-nodes (labels-for h v) v (record { left = most-nodes; begun = [] }) x) i)
         ]
