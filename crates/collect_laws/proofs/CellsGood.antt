@@ -1,7 +1,7 @@
 -- A cell as before is good again, where its block lies in the room and what it leads to is in use. Document 01, "A heap is sound
 -- when": 11's rules, "every slot that an Allocated cell or its elements name is Allocated". Assumes nothing.
 use mathlib.Core.Path.{_≡_, refl, sym, ap, _∙_}
-use mathlib.Core.Bool.{Bool, true, false}
+use mathlib.Core.Bool.{true}
 use mathlib.Core.List.{List, [], _∷_}
 use Prim.Native.Nat.{ℕ, _+_, _-_, _≤_, _<_}
 use native.Mathlib.Omega.{arith}

@@ -10,12 +10,12 @@ use lib.ListN.{length}
 use Rattle.laws.specs.Basics.{every, member, count}
 use Rattle.laws.proofs.Pointwise.{every-at, all-every}
 use Rattle.rules.specs.Map.{Free, state-of}
-use Rattle.rules.specs.Cells.{undefined, Value, scalar, Cell, plain}
+use Rattle.rules.specs.Cells.{undefined, scalar, plain}
 use Rattle.rules.specs.Heap.{Heap, capacity, cell-at, in-use}
-use Rattle.rules.specs.Collect.{leads-to, Reached, marked, packed-cell, collect, collect-rules}
+use Rattle.rules.specs.Collect.{leads-to, Reached, marked, collect, collect-rules}
 use Rattle.rules.specs.Sound.{value-allowed, text-block, vector-block, lies-in, sound-rules}
 use Rattle.rules.proofs.Growth.{Reached as Grown-to}
-use Rattle.rules.proofs.Good.{element-at, Cell-good, Good, apart, used-slot}
+use Rattle.rules.proofs.Good.{Cell-good, Good, apart, used-slot}
 use Rattle.rules.proofs.PutCells.{plain-fits}
 use Rattle.collect_laws.proofs.Reach.{among, marked-reached}
 use Rattle.collect_laws.proofs.Leading.{is-marked, not-marked}

@@ -13,7 +13,7 @@ use Rattle.laws.specs.Basics.{every}
 use Rattle.laws.proofs.Tests.{both-left}
 use Rattle.rules.specs.Numbers.{scratch-words}
 use Rattle.rules.specs.Refusals.{Refusal, unsound, short-scratch, no-such-slot, accepted, refused, _⇒_}
-use Rattle.rules.specs.Heap.{Heap, capacity, in-use}
+use Rattle.rules.specs.Heap.{capacity, in-use}
 use Rattle.rules.specs.Layout.{Lent, rooms-of, heap-of, lent-of, header, layout-rules}
 use Rattle.rules.specs.Collect.{collect}
 use Rattle.rules.specs.Sound.{sound}

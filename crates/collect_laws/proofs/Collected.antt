@@ -1,7 +1,7 @@
 -- What a collection keeps and what it frees: just the slots that the roots reach stay in use; each of them shows what it showed
 -- but for the place of its block, and every other slot shows Undefined. Document 01: "It frees, in rising order, what is not
 -- reached, writes Undefined there", and of blocks "sharing stays". Assumes nothing.
-use mathlib.Core.Path.{_≡_, refl, sym, ap, _∙_, subst}
+use mathlib.Core.Path.{_≡_, refl, ap, _∙_, subst}
 use mathlib.Core.Bool.{Bool, true, false}
 use mathlib.Core.List.{List}
 use mathlib.Core.Logic.{_↔_}

@@ -10,10 +10,10 @@ use native.Mathlib.Omega.{arith}
 use lib.Dec.{eqb}
 use lib.ListN.{length}
 use Rattle.laws.specs.Basics.{either, same}
-use Rattle.rules.specs.Cells.{Value, slot, scalar, Cell, plain, pair, symbol, string, vector}
-use Rattle.rules.specs.Heap.{Heap, cell-at, shown, elements-of}
+use Rattle.rules.specs.Cells.{Value, slot, Cell, plain, pair, symbol, string, vector}
+use Rattle.rules.specs.Heap.{Heap, cell-at, shown}
 use Rattle.rules.specs.Collect.{Reached, next}
-use Rattle.rules.specs.Equal.{eqv-cells, same-slot, eqv, Goal, alike, walks, Step, fails, needs, holds-if, element-by-element, vectors-step, slots-step, unlike-step, walk-step, step, Fails, now, later, Equal, equal-rules}
+use Rattle.rules.specs.Equal.{eqv-cells, same-slot, eqv, Goal, alike, walks, Step, fails, needs, holds-if, element-by-element, vectors-step, slots-step, unlike-step, walk-step, step, Fails, now, later, Equal}
 use Rattle.collect_laws.specs.Kept.{As-before, same-scalar, same-pair, symbol-moved, string-moved, vector-moved, Reached-value, no-slot, at-slot}
 use Rattle.collect_laws.proofs.Reading.{Reached-values, none-left, one-more, Led, pair-led, vector-led}
 

@@ -4,20 +4,19 @@
 use mathlib.Core.Path.{_≡_, refl, sym, ap, _∙_, subst}
 use mathlib.Core.Bool.{Bool, true, false, not}
 use mathlib.Core.List.{List, [], _∷_}
-use Prim.Native.Nat.{ℕ, zero, suc, _+_, _<_}
+use Prim.Native.Nat.{ℕ, zero, suc, _<_}
 use native.Mathlib.Omega.{arith}
 use borrow.Author.Tests.{eqb-true}
-use lib.Dec.{eqb, ltb}
+use lib.Dec.{eqb}
 use lib.ListN.{length, getD}
-use Rattle.laws.specs.Basics.{choose, both, every, member, keep, same}
+use Rattle.laws.specs.Basics.{choose, both, every, member, keep, same, rising}
 use Rattle.laws.proofs.Tests.{both-left, both-right, both-true}
-use Rattle.rules.specs.Numbers.{bits32}
 use Rattle.rules.specs.Map.{state-of, is-allocated, map-rules}
 use Rattle.rules.specs.Cells.{Cell, plain, pair, symbol, string, vector, is-symbol}
-use Rattle.rules.specs.Heap.{Heap, Entry, cell-at, in-use, text-of, name-at}
+use Rattle.rules.specs.Heap.{Heap, Entry, capacity, cell-at, in-use, text-of, name-at}
 use Rattle.rules.specs.Layout.{entry-at}
 use Rattle.rules.specs.Collect.{marked, collect, collect-rules}
-use Rattle.rules.specs.Sound.{entry-sound, entries-differ, sound-rules}
+use Rattle.rules.specs.Sound.{entry-sound, entries-differ}
 use Rattle.rules.proofs.Good.{Good}
 use Rattle.collect_laws.specs.Kept.{As-before, same-scalar, same-pair, symbol-moved, string-moved, vector-moved}
 use Rattle.collect_laws.proofs.Sweeping.{sweeps}
@@ -88,7 +87,7 @@ module _ (h : Heap) (g : Good h) (roots : List ℕ) (u : every (in-use h) roots 
 
   pub collect-table : collect roots h .table ≡ keep stays (h .table)
   unfolding collect-rules swept-heap
-  collect-table = ap (keep stays) (sweeps (marked h roots) (Rattle.laws.specs.Basics.rising 0 (length (h .cells))) h .table)
+  collect-table = ap (keep stays) (sweeps (marked h roots) (rising 0 (capacity h)) h .table)
 
   -- an entry that stays leads to a marked slot
   stays-marked : (e : Entry) → stays e ≡ true → member (e .slot) (marked h roots) ≡ true

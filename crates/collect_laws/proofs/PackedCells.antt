@@ -10,9 +10,9 @@ use native.Mathlib.Decide.{decLt}
 use lib.ListN.{length, getD, take, length-map, List·getD-eq-default}
 use lib.Seq.{take-suc, take-all}
 use Rattle.laws.specs.Basics.{every}
-use Rattle.rules.specs.Cells.{undefined, Value, Block, block, Cell, plain, pair, symbol, string, vector}
+use Rattle.rules.specs.Cells.{undefined, Block, block, Cell, plain, pair, symbol, string, vector}
 use Rattle.rules.specs.Heap.{Heap, capacity, cell-at, part-of}
-use Rattle.rules.specs.Collect.{Moved, Packing, Packed, pack-block, moved-block, pack-cell, pack-cells, packed-cell, pack, collect-rules}
+use Rattle.rules.specs.Collect.{Packing, Packed, pack-block, moved-block, pack-cell, pack-cells, packed-cell, pack, collect-rules}
 use Rattle.rules.specs.Sound.{text-block, vector-block, lies-in, sound-rules}
 use Rattle.rules.proofs.Good.{apart}
 use Rattle.collect_laws.specs.Packs.{none-packed, all-packed, texts-of, vectors-of}

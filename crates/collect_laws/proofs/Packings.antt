@@ -1,25 +1,22 @@
 -- Packing block by block, of any room: what was moved so far, that it fits, and where each block went. Document 01: "A
 -- collection keeps each block that a surviving slot shows, once, packed by lowest such slot; sharing stays." Assumes nothing.
 use mathlib.Core.Path.{_≡_, refl, sym, ap, _∙_, subst}
-use mathlib.Core.Bool.{Bool, true, false, not, true≢false}
-use mathlib.Core.List.{List, [], _∷_, _++_, append-assoc, append-nil}
+use mathlib.Core.Bool.{Bool, true, false, true≢false}
+use mathlib.Core.List.{List, [], _∷_, _++_, append-nil}
 use mathlib.Core.Option.{Option, none, some}
-use Prim.Native.Nat.{ℕ, zero, suc, _+_, _-_, _≤_, _<_}
+use Prim.Native.Nat.{ℕ, zero, suc, _+_, _≤_, _<_}
 use native.Mathlib.Omega.{arith}
 use native.Mathlib.Nat.{add-zero, add-suc}
-use native.Mathlib.Numerals.{add-one}
-use native.Mathlib.Decide.{ℕ-discrete}
-use borrow.Author.Tests.{eqb-true, eqb-false, eq-eqb, ne-eqb, leb-true, ltb-true, ltb-false, lt-ltb, not-true}
+use borrow.Author.Tests.{eqb-true, eqb-false, eq-eqb, ne-eqb, leb-true, ltb-true, ltb-false, lt-ltb}
 use lib.Dec.{eqb, leb, ltb}
-use lib.ListN.{length, getD, take, drop, set, length-append}
-use lib.Seq.{getD-set-same, getD-set-other}
-use Rattle.laws.specs.Basics.{choose, both, either, every, count, find, join, rising, basics}
-use Rattle.laws.proofs.Tests.{both-left, both-right, both-true, every-front, every-back, every-append, join-append}
+use lib.ListN.{length, length-append}
+use Rattle.laws.specs.Basics.{either, every, count, find, join, rising, basics}
+use Rattle.laws.proofs.Tests.{both-left, both-right, both-true, every-append, join-append}
 use Rattle.laws.proofs.Lists.{count-rising, count-rising-in, length-rising, getD-rising}
 use Rattle.laws.proofs.Pointwise.{count-append, count-rising-past, all-every, length-part}
-use Rattle.rules.specs.Cells.{Block, block, same-block}
+use Rattle.rules.specs.Cells.{Block, same-block}
 use Rattle.rules.specs.Heap.{part-of}
-use Rattle.rules.specs.Collect.{Moved, Packing, place-of, pack-block, moved-block}
+use Rattle.rules.specs.Collect.{Moved, Packing, place-of, pack-block}
 use Rattle.rules.specs.Sound.{sound-rules}
 use Rattle.rules.proofs.Good.{apart, each-once}
 

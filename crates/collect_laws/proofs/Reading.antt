@@ -1,18 +1,18 @@
 -- What is reached reads the same where every reached slot shows what it showed: the walk gives the same labels, and the build the
 -- same datum. Document 01, "Reading back". Assumes nothing.
-use mathlib.Core.Path.{_≡_, refl, sym, ap, _∙_}
-use mathlib.Core.Bool.{Bool, true, false}
+use mathlib.Core.Path.{_≡_, refl, ap, _∙_}
+use mathlib.Core.Bool.{true, false}
 use mathlib.Core.List.{List, [], _∷_, List·Memᴰ, List·Memᴰ·head, List·Memᴰ·tail}
-use mathlib.Core.Option.{Option, none, some}
+use mathlib.Core.Option.{Option, none}
 use Prim.Native.Nat.{ℕ, zero, suc}
 use lib.Dec.{leb}
 use lib.ListN.{length}
-use Rattle.laws.specs.Basics.{member, basics}
+use Rattle.laws.specs.Basics.{member}
 use Rattle.rules.specs.Numbers.{most-nodes, most-labels}
-use Rattle.rules.specs.Cells.{Value, slot, scalar, Cell, plain, pair, symbol, string, vector}
+use Rattle.rules.specs.Cells.{Value, slot, scalar, Block, Cell, plain, pair, symbol, string, vector}
 use Rattle.rules.specs.Nodes.{Atom}
-use Rattle.rules.specs.Datum.{Datum}
-use Rattle.rules.specs.Heap.{Heap, capacity, cell-at, text-of, elements-of}
+use Rattle.rules.specs.Datum.{Datum, more}
+use Rattle.rules.specs.Heap.{Heap, capacity, cell-at, elements-of}
 use Rattle.rules.specs.Collect.{slots-among, leads-to, Reached, next}
 use Rattle.rules.specs.Read.{Walk, enter, in-order, walk, labels-for, place-in, Room, Built, built, and-then, spend, build-all, build-cell, build, reading-of, reading, read-rules}
 use Rattle.collect_laws.specs.Kept.{As-before, same-scalar, same-pair, symbol-moved, string-moved, vector-moved, Reached-value, no-slot, at-slot}
@@ -37,7 +37,7 @@ pub pair-led : (h : Heap) (roots : List ℕ) (a d : ℕ) → Led h roots (pair a
 unfolding leads-to
 pair-led h roots a d p = (at-slot (p a (List·Memᴰ·head refl)), at-slot (p d (List·Memᴰ·tail (List·Memᴰ·head refl))))
 
-pub vector-led : (h : Heap) (roots : List ℕ) (b : Rattle.rules.specs.Cells.Block) → Led h roots (vector b) → Reached-values h roots (elements-of h b)
+pub vector-led : (h : Heap) (roots : List ℕ) (b : Block) → Led h roots (vector b) → Reached-values h roots (elements-of h b)
 unfolding leads-to
 vector-led h roots b p = reached-values h roots (elements-of h b) p
 
@@ -86,7 +86,7 @@ module _ (h k : Heap) (roots : List ℕ) (same : (s : ℕ) → Reached h roots s
     unfolding read-rules
     build-all-same none-left r = refl
     build-all-same (one-more {v} {vs} x xs) r =
-        λ i. and-then (p v r x i) (λ d r. and-then (build-all-same xs r i) (λ ds. built (Rattle.rules.specs.Datum.more d ds)))
+        λ i. and-then (p v r x i) (λ d r. and-then (build-all-same xs r i) (λ ds. built (more d ds)))
 
     build-cell-same : {c d : Cell} → As-before h k c d → Led h roots c → (r : Room) → build-cell one k d r ≡ build-cell one′ h c r
     unfolding read-rules

@@ -5,19 +5,18 @@ use mathlib.Core.Path.{_≡_, refl, sym, ap, _∙_}
 use mathlib.Core.Bool.{Bool, true, false, not}
 use mathlib.Core.List.{List, [], _∷_}
 use mathlib.Core.Logic.{⊎-elim}
-use Prim.Native.Nat.{ℕ, zero, suc, _+_, _*_, _/_, _≤_, _<_}
+use Prim.Native.Nat.{ℕ, zero, suc, _+_, _*_, _≤_, _<_}
 use native.Mathlib.Omega.{arith}
 use native.Mathlib.Decide.{ℕ-discrete, decLt}
 use borrow.Author.Tests.{eqb-true, eq-eqb}
-use lib.Dec.{eqb}
-use lib.ListN.{length, getD, set, length-set, List·getD-eq-default}
+use lib.ListN.{length, getD, set, length-set}
 use lib.Seq.{getD-set-same, getD-set-other}
 use Rattle.laws.specs.Basics.{both, member, count, basics}
-use Rattle.laws.proofs.Tests.{true≢false, both-left, both-right}
+use Rattle.laws.proofs.Tests.{true≢false}
 use Rattle.laws.proofs.Pointwise.{count-here, count-other}
 use Rattle.rules.specs.Map.{Free, state-of, set-state, is-allocated, map-rules}
-use Rattle.rules.specs.Cells.{undefined, Value, Cell, plain}
-use Rattle.rules.specs.Heap.{Heap, Entry, capacity, cell-at}
+use Rattle.rules.specs.Cells.{undefined, Cell, plain}
+use Rattle.rules.specs.Heap.{Heap, capacity, cell-at}
 use Rattle.rules.specs.Collect.{free-slot, sweep}
 use Rattle.rules.proofs.TwoBits.{state-past, set-state-length, state-same, state-other}
 use Rattle.collect_laws.proofs.Reach.{member-cases}

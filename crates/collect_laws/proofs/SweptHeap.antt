@@ -1,16 +1,16 @@
 -- The heap between sweeping and packing: a marked slot is in use and shows what it showed, all others are Free and show Undefined;
 -- blocks lie where they lay. Document 01: "It frees, in rising order, what is not reached, writes Undefined there, and puts each
 -- on top of the list." Assumes nothing.
-use mathlib.Core.Path.{_≡_, refl, sym, ap, _∙_}
+use mathlib.Core.Path.{_≡_, ap, _∙_}
 use mathlib.Core.Bool.{Bool, true, false}
-use mathlib.Core.List.{List, [], _∷_}
-use Prim.Native.Nat.{ℕ, zero, suc, _+_, _*_, _≤_, _<_}
+use mathlib.Core.List.{List, _∷_}
+use Prim.Native.Nat.{ℕ, zero, suc, _+_, _≤_, _<_}
 use native.Mathlib.Omega.{arith}
 use native.Mathlib.Decide.{decLt, ℕ-discrete}
 use borrow.Author.Tests.{le-leb}
 use lib.ListN.{length}
 use Rattle.laws.specs.Basics.{both, every, member, rising, basics}
-use Rattle.rules.specs.Map.{Free, Allocated, state-of, is-allocated}
+use Rattle.rules.specs.Map.{Free, Allocated, state-of}
 use Rattle.rules.specs.Cells.{undefined, Block, block, Cell, plain}
 use Rattle.rules.specs.Heap.{Heap, capacity, cell-at, in-use}
 use Rattle.rules.specs.Collect.{marked, sweep, drop-entries}
@@ -19,7 +19,7 @@ use Rattle.rules.proofs.Good.{Good, apart, used-slot, capacity-fours, free-past
 use Rattle.rules.proofs.Keeping.{lies-below, apart-sym, apart-empty}
 use Rattle.collect_laws.proofs.Reach.{first-member, later-member}
 use Rattle.collect_laws.proofs.Leading.{marked-in-use}
-use Rattle.collect_laws.proofs.Sweeping.{Swept-cell, kept, wiped, Sweeps, sweeps, Listed, sweep-listed, sweep-frees}
+use Rattle.collect_laws.proofs.Sweeping.{Swept-cell, kept, wiped, sweeps, Listed, sweep-listed, sweep-frees}
 use Rattle.collect_laws.proofs.PackedCells.{Blocks-sound, no-text, no-vector}
 
 member-rising : (a n s : ℕ) → a ≤ s → s < a + n → member s (rising a n) ≡ true

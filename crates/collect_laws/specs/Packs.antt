@@ -1,6 +1,6 @@
 -- The rules' packing of a whole heap, arena by arena. Document 01: "A collection keeps each block that a surviving slot shows,
 -- once, packed by lowest such slot". Assumes nothing.
-use mathlib.Core.List.{List, []}
+use mathlib.Core.List.{[]}
 use Prim.Native.Nat.{ℕ}
 use Rattle.rules.specs.Cells.{Value}
 use Rattle.rules.specs.Heap.{Heap}
