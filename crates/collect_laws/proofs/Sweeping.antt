@@ -117,7 +117,7 @@ module _ (ms : List ℕ) (s : ℕ) (h : Heap) where
         unused = λ t e. state-other (h .map) s Free (omega arith) t (λ q. omega (arith, one, e, ap (state-of (h .map)) q)) ∙ e;
       }
 
-  turn-sweeps : Sweeps ms h (turn ms s h)
+  pub turn-sweeps : Sweeps ms h (turn ms s h)
   turn-sweeps = turn-by (Sweeps ms h) ms s h freed-sweeps (λ n. sweeps-none ms h)
 
 pub sweeps : (ms ss : List ℕ) (h : Heap) → Sweeps ms h (sweep ms ss h)
@@ -135,7 +135,7 @@ pub record Listed (h : Heap) : Type 0 where
   pub empty : (s : ℕ) → state-of (h .map) s ≡ Free → cell-at h s ≡ plain undefined
 
 module _ (h : Heap) (g : Listed h) (a : ℕ) (one : state-of (h .map) a ≡ 1) where
-  pub one-below : a < capacity h
+  one-below : a < capacity h
   one-below =
       elim (decLt a (capacity h)) [
         | yes l ↦ l
@@ -146,7 +146,7 @@ module _ (h : Heap) (g : Listed h) (a : ℕ) (one : state-of (h .map) a ≡ 1) w
   unfolding free-slot
   freed-here = state-same (h .map) a Free (omega arith) (omega (arith, one-below, g .states))
 
-  pub freed-once : (s : ℕ) → s < capacity h → count s (free-slot a h .free) + state-of (free-slot a h .map) s ≡ 1
+  freed-once : (s : ℕ) → s < capacity h → count s (free-slot a h .free) + state-of (free-slot a h .map) s ≡ 1
   unfolding free-slot
   freed-once s k =
       elim (ℕ-discrete s a) [

@@ -11,7 +11,8 @@ use Rattle.rules.specs.Layout.{words-of, filled, layout-rules}
 use Rattle.rules.proofs.LentLaws.{words-length, filled-length, elements-length}
 use Rattle.leaf_cells.specs.Words.{stored}
 use Rattle.leaf_cells.proofs.CallLaws.{stored-length}
-use Rattle.heap_pack.specs.Passes.{vectors-of, with-vectors, value-list, ElementsBegin, ElementsEnd, ElementsLent, ElementsPacked}
+use Rattle.collect_laws.specs.Packs.{vectors-of}
+use Rattle.heap_pack.specs.Passes.{with-vectors, value-list, ElementsBegin, ElementsEnd, ElementsLent, ElementsPacked}
 use Rattle.heap_pack.proofs.RoomLaws.{front-is, copied, now-long, cleared-behind}
 use Rattle.heap_pack.proofs.ElementLaws.{no-longer}
 

@@ -11,7 +11,8 @@ use Rattle.rules.specs.Layout.{words-of, filled, layout-rules}
 use Rattle.rules.proofs.LentLaws.{words-length, filled-length}
 use Rattle.leaf_cells.specs.Words.{stored}
 use Rattle.leaf_cells.proofs.CallLaws.{stored-length}
-use Rattle.heap_pack.specs.Passes.{texts-of, with-texts, TextsBegin, TextsEnd, TextsLent, TextsPacked}
+use Rattle.collect_laws.specs.Packs.{texts-of}
+use Rattle.heap_pack.specs.Passes.{with-texts, TextsBegin, TextsEnd, TextsLent, TextsPacked}
 use Rattle.heap_pack.proofs.RoomLaws.{front-is, copied, now-long, cleared-behind}
 use Rattle.heap_pack.proofs.TextLaws.{no-longer}
 

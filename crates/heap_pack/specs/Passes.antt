@@ -11,15 +11,7 @@ use Rattle.rules.specs.Layout.{Rooms, words-of, filled, value-words}
 use Rattle.rules.specs.Collect.{Moved, Packing, Packed, pack-cells, moved-block, pack}
 use Rattle.rules.specs.Sound.{text-block, vector-block, lies-in}
 use Rattle.rules.proofs.Good.{apart}
-
-abbrev pub none-packed : Packed
-none-packed = record { texts = record { room = []; moved = [] }; vectors = record { room = []; moved = [] } }
-
-abbrev pub texts-of : Heap → Packing ℕ
-texts-of h = pack-cells h (h .cells) none-packed .texts
-
-abbrev pub vectors-of : Heap → Packing Value
-vectors-of h = pack-cells h (h .cells) none-packed .vectors
+use Rattle.collect_laws.specs.Packs.{texts-of, vectors-of}
 
 -- a cell whose text was moved
 abbrev pub text-placed : List Moved → Cell → Cell
