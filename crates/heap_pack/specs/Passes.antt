@@ -1,14 +1,14 @@
 -- The two passes of packing, texts and then elements, and how far each has come. Assumes nothing.
 use mathlib.Core.Path.{_≡_}
 use mathlib.Core.Bool.{true}
-use mathlib.Core.List.{List, [], _∷_, _++_, map}
+use mathlib.Core.List.{List, _++_, map}
 use Prim.Native.Nat.{ℕ, _*_, _≤_}
 use lib.ListN.{length, getD, take, drop}
 use Rattle.laws.specs.Basics.{join}
-use Rattle.rules.specs.Cells.{Value, Block, block, Cell, plain, pair, symbol, string, vector}
+use Rattle.rules.specs.Cells.{Value, Cell, plain, pair, symbol, string, vector}
 use Rattle.rules.specs.Heap.{Heap, capacity, cell-at}
 use Rattle.rules.specs.Layout.{Rooms, words-of, filled, value-words}
-use Rattle.rules.specs.Collect.{Moved, Packing, Packed, pack-cells, moved-block, pack}
+use Rattle.rules.specs.Collect.{Moved, moved-block, pack}
 use Rattle.rules.specs.Sound.{text-block, vector-block, lies-in}
 use Rattle.rules.proofs.Good.{apart}
 use Rattle.collect_laws.specs.Packs.{texts-of, vectors-of}
