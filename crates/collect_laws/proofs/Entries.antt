@@ -6,11 +6,12 @@ use mathlib.Core.Bool.{Bool, true, false, not}
 use mathlib.Core.List.{List, [], _∷_}
 use Prim.Native.Nat.{ℕ, zero, suc, _<_}
 use native.Mathlib.Omega.{arith}
-use borrow.Author.Tests.{eqb-true}
+use borrow.Author.Tests.{eqb-true, eq-eqb, ne-eqb}
 use lib.Dec.{eqb}
 use lib.ListN.{length, getD}
 use Rattle.laws.specs.Basics.{choose, both, every, member, keep, same, rising}
-use Rattle.laws.proofs.Tests.{both-left, both-right, both-true}
+use Rattle.laws.proofs.Tests.{true≢false, both-left, both-right, both-true}
+use Rattle.laws.proofs.Members.{keep-same}
 use Rattle.rules.specs.Map.{state-of, is-allocated, map-rules}
 use Rattle.rules.specs.Cells.{Cell, plain, pair, symbol, string, vector, is-symbol}
 use Rattle.rules.specs.Heap.{Heap, Entry, capacity, cell-at, in-use, text-of, name-at}
@@ -20,8 +21,8 @@ use Rattle.rules.specs.Sound.{entry-sound, entries-differ}
 use Rattle.rules.proofs.Good.{Good}
 use Rattle.collect_laws.specs.Kept.{As-before, same-scalar, same-pair, symbol-moved, string-moved, vector-moved}
 use Rattle.collect_laws.proofs.Sweeping.{sweeps}
-use Rattle.collect_laws.proofs.SweptHeap.{swept-heap, unmarked-free}
-use Rattle.collect_laws.proofs.Collected.{marked-used, marked-as-before}
+use Rattle.collect_laws.proofs.SweptHeap.{swept-heap, unmarked-free, marked-allocated}
+use Rattle.collect_laws.proofs.Collected.{marked-used, used-marked, marked-as-before}
 
 -- ---- those that a test keeps
 
@@ -85,7 +86,7 @@ module _ (h : Heap) (g : Good h) (roots : List ℕ) (u : every (in-use h) roots 
   abbrev none : Entry
   none = record { slot = 0; scope = 0 }
 
-  pub collect-table : collect roots h .table ≡ keep stays (h .table)
+  collect-table : collect roots h .table ≡ keep stays (h .table)
   unfolding collect-rules swept-heap
   collect-table = ap (keep stays) (sweeps (marked h roots) (rising 0 (capacity h)) h .table)
 
@@ -126,3 +127,22 @@ module _ (h : Heap) (g : Good h) (roots : List ℕ) (u : every (in-use h) roots 
       subst (λ (t : List Entry). (i j : ℕ) → i < j → j < length t → entries-differ k (getD t i none) (getD t j none) ≡ true) (sym collect-table)
       (keep-pairs stays none (λ d e. entries-differ k d e ≡ true) (h .table)
       (λ i j m l p q. differ-stay (getD (h .table) i none) (getD (h .table) j none) (g .differ i j m l) p q))
+
+  still-used : (s : ℕ) → is-allocated (swept-heap roots h .map) s ≡ in-use (collect roots h) s
+  unfolding map-rules
+  still-used s = by (member s (marked h roots)) refl
+    where
+      by : (b : Bool) → member s (marked h roots) ≡ b → is-allocated (swept-heap roots h .map) s ≡ in-use (collect roots h) s
+      by true m =
+          eq-eqb (state-of (swept-heap roots h .map) s) 1 (marked-allocated h g roots u s m) ∙ sym (marked-used h g roots u s m)
+      by false m =
+          ne-eqb (state-of (swept-heap roots h .map) s) 1 (λ e. omega (arith, unmarked-free h g roots s m))
+          ∙ sym (unused-after (in-use (collect roots h) s) refl)
+        where
+          unused-after : (b : Bool) → in-use (collect roots h) s ≡ b → b ≡ false
+          unused-after true e = absurd (true≢false (sym (used-marked h g roots u s e) ∙ m))
+          unused-after false e = refl
+
+  -- the entries whose slots are still in use, in their order
+  pub kept-table : collect roots h .table ≡ keep (λ (e : Entry). in-use (collect roots h) (e .slot)) (h .table)
+  kept-table = collect-table ∙ keep-same stays (λ (e : Entry). in-use (collect roots h) (e .slot)) (λ e. still-used (e .slot)) (h .table)

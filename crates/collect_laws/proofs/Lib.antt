@@ -3,6 +3,7 @@ pub mod Leading
 pub mod Sweeping
 pub mod Packings
 pub mod Placing
+pub mod Order
 pub mod PackedCells
 pub mod SweptHeap
 pub mod Collected

@@ -62,10 +62,10 @@ module _ {A : Type 0} (old : List A) (shows : ℕ → Block) (apart-all : (s t :
   abbrev with-new : ℕ → Packing A → Packing A
   with-new s p = packing.with-new old shows apart-all inside s p
 
-  record Holds (p : Packing A) : Type 0 where
-    in-room : (b : Block) (k : ℕ) → place-of b (p .moved) ≡ some k → k + b .size ≤ length (p .room)
-    part : (b : Block) (k : ℕ) → place-of b (p .moved) ≡ some k → part-of (p .room) (block k (b .size)) ≡ part-of old b
-    disjoint : (b c : Block) (j k : ℕ) → place-of b (p .moved) ≡ some j → place-of c (p .moved) ≡ some k → (b ≡ c → ⊥) → (j + b .size ≤ k) ⊎ (k + c .size ≤ j)
+  pub record Holds (p : Packing A) : Type 0 where
+    pub in-room : (b : Block) (k : ℕ) → place-of b (p .moved) ≡ some k → k + b .size ≤ length (p .room)
+    pub part : (b : Block) (k : ℕ) → place-of b (p .moved) ≡ some k → part-of (p .room) (block k (b .size)) ≡ part-of old b
+    pub disjoint : (b c : Block) (j k : ℕ) → place-of b (p .moved) ≡ some j → place-of c (p .moved) ≡ some k → (b ≡ c → ⊥) → (j + b .size ≤ k) ⊎ (k + c .size ≤ j)
 
   holds-none : Holds (record { room = []; moved = [] })
   holds-none =
@@ -111,7 +111,7 @@ module _ {A : Type 0} (old : List A) (shows : ℕ → Block) (apart-all : (s t :
           disjoint = λ b c j k e f. disjoint-new b c j k (cases b j e) (cases c k f);
         }
 
-  holds : (s : ℕ) → Holds (packed s)
+  pub holds : (s : ℕ) → Holds (packed s)
   holds = packing.packed-by old shows apart-all inside Holds holds-none (λ s p g some-of-it new. holds-new s p g new)
 
   -- what every element keeps, every element of the new room keeps
@@ -123,11 +123,11 @@ module _ {A : Type 0} (old : List A) (shows : ℕ → Block) (apart-all : (s t :
 
   -- ---- each slot's block
 
-  record Went (n s : ℕ) : Type 0 where
-    place : ℕ
-    is : place-of (shows s) (packed n .moved) ≡ some place
+  pub record Went (n s : ℕ) : Type 0 where
+    pub place : ℕ
+    pub is : place-of (shows s) (packed n .moved) ≡ some place
 
-  goes : (s : ℕ) → 0 < shows s .size → Went (suc s) s
+  pub goes : (s : ℕ) → 0 < shows s .size → Went (suc s) s
   unfolding packing.packed
   goes s h = by (place-of (shows s) (packed s .moved)) refl
     where
@@ -147,7 +147,7 @@ module _ {A : Type 0} (old : List A) (shows : ℕ → Block) (apart-all : (s t :
 
   -- the blocks of all slots below n are packed, and the others are empty
   module _ (n : ℕ) (few : (s : ℕ) → 0 < shows s .size → s < n) where
-    went : (s : ℕ) → 0 < shows s .size → Went n s
+    pub went : (s : ℕ) → 0 < shows s .size → Went n s
     went s h =
         let w = goes s h in
         let upto : suc s + (n - suc s) ≡ n = omega (arith, few s h) in
@@ -161,7 +161,7 @@ module _ {A : Type 0} (old : List A) (shows : ℕ → Block) (apart-all : (s t :
     abbrev pub to : ℕ → Block
     to s = moved-block (shows s) (packed n .moved)
 
-    to-some : (b : Block) (k : ℕ) → place-of b (packed n .moved) ≡ some k → moved-block b (packed n .moved) ≡ block k (b .size)
+    pub to-some : (b : Block) (k : ℕ) → place-of b (packed n .moved) ≡ some k → moved-block b (packed n .moved) ≡ block k (b .size)
     unfolding moved-block
     to-some b k e = ap (λ (o : Option ℕ). elim o as (λ o. Block) [ none ↦ block 0 (b .size) | some j ↦ block j (b .size) ]) e
 
