@@ -9,6 +9,7 @@ use Prim.Native.Nat.{ℕ, _≤_}
 use native.Mathlib.Omega.{arith}
 use lib.ListN.{length}
 use Rattle.laws.specs.Basics.{every, member}
+use Rattle.laws.proofs.Checks.{agreeing}
 use Rattle.rules.specs.Map.{Free, state-of}
 use Rattle.rules.specs.Cells.{undefined, Value, Cell, plain}
 use Rattle.rules.specs.Heap.{Heap, capacity, cell-at, in-use, part-of, text-of, elements-of}
@@ -103,6 +104,9 @@ module _ (h : Heap) (g : Good h) (roots : List ℕ) where
         by : (b : Bool) → member s (marked h roots) ≡ b → b ≡ true
         by true q = refl
         by false q = absurd (omega (arith, unmarked-unused s q, used-slot (collect roots h) s e .state))
+
+    pub used-is : (s : ℕ) → in-use (collect roots h) s ≡ member s (marked h roots)
+    used-is s = agreeing (in-use (collect roots h) s) (member s (marked h roots)) (used-marked s) (marked-used s)
 
     -- a slot is in use afterwards exactly when the roots reach it
     pub kept-exactly : (s : ℕ) → (in-use (collect roots h) s ≡ true) ↔ Reached h roots s

@@ -10,7 +10,7 @@ use borrow.Author.Tests.{eqb-true, eq-eqb, ne-eqb}
 use lib.Dec.{eqb}
 use lib.ListN.{length, getD}
 use Rattle.laws.specs.Basics.{choose, both, every, member, keep, same, rising}
-use Rattle.laws.proofs.Tests.{true≢false, both-left, both-right, both-true}
+use Rattle.laws.proofs.Tests.{both-left, both-right, both-true}
 use Rattle.laws.proofs.Members.{keep-same}
 use Rattle.rules.specs.Map.{state-of, is-allocated, map-rules}
 use Rattle.rules.specs.Cells.{Cell, plain, pair, symbol, string, vector, is-symbol}
@@ -22,7 +22,7 @@ use Rattle.rules.proofs.Good.{Good}
 use Rattle.collect_laws.specs.Kept.{As-before, same-scalar, same-pair, symbol-moved, string-moved, vector-moved}
 use Rattle.collect_laws.proofs.Sweeping.{sweeps}
 use Rattle.collect_laws.proofs.SweptHeap.{swept-heap, unmarked-free, marked-allocated}
-use Rattle.collect_laws.proofs.Collected.{marked-used, used-marked, marked-as-before}
+use Rattle.collect_laws.proofs.Collected.{marked-used, used-is, marked-as-before}
 
 -- ---- those that a test keeps
 
@@ -133,15 +133,9 @@ module _ (h : Heap) (g : Good h) (roots : List ℕ) (u : every (in-use h) roots 
   still-used s = by (member s (marked h roots)) refl
     where
       by : (b : Bool) → member s (marked h roots) ≡ b → is-allocated (swept-heap roots h .map) s ≡ in-use (collect roots h) s
-      by true m =
-          eq-eqb (state-of (swept-heap roots h .map) s) 1 (marked-allocated h g roots u s m) ∙ sym (marked-used h g roots u s m)
+      by true m = eq-eqb (state-of (swept-heap roots h .map) s) 1 (marked-allocated h g roots u s m) ∙ sym (used-is h g roots u s ∙ m)
       by false m =
-          ne-eqb (state-of (swept-heap roots h .map) s) 1 (λ e. omega (arith, unmarked-free h g roots s m))
-          ∙ sym (unused-after (in-use (collect roots h) s) refl)
-        where
-          unused-after : (b : Bool) → in-use (collect roots h) s ≡ b → b ≡ false
-          unused-after true e = absurd (true≢false (sym (used-marked h g roots u s e) ∙ m))
-          unused-after false e = refl
+          ne-eqb (state-of (swept-heap roots h .map) s) 1 (λ e. omega (arith, unmarked-free h g roots s m)) ∙ sym (used-is h g roots u s ∙ m)
 
   -- the entries whose slots are still in use, in their order
   pub kept-table : collect roots h .table ≡ keep (λ (e : Entry). in-use (collect roots h) (e .slot)) (h .table)

@@ -7,6 +7,7 @@ pub mod Order
 pub mod PackedCells
 pub mod SweptHeap
 pub mod Collected
+pub mod FreedOrder
 pub mod Reading
 pub mod Comparing
 pub mod KeptSame
