@@ -21,8 +21,10 @@ use Rattle.rules.specs.Calls.{Left, left, checked, cleared, collect-call}
 use Rattle.rules.proofs.LentLaws.{rooms-lent, heap-lent}
 use Rattle.rules.proofs.SoundLaws.{clauses, sound-fits, Numbered, numbered}
 use Rattle.rules.proofs.GoodSound.{passed, unless-keeps, sound-good, good-fits, good-sound}
+use Rattle.collect_laws.specs.Collects.{Collects}
 use Rattle.collect_laws.proofs.Collected.{kept-capacity, kept-chunk, bytes-no-longer, elements-no-longer}
 use Rattle.collect_laws.proofs.CollectGood.{collect-good}
+use Rattle.collect_laws.proofs.Collecting.{collects}
 
 -- what an accepted collection leaves
 pub record Collect-accepted (l : Lent) (roots : List ℕ) (x : Left (Unit {0})) : Type 0 where
@@ -32,6 +34,7 @@ pub record Collect-accepted (l : Lent) (roots : List ℕ) (x : Left (Unit {0})) 
   pub heap : heap-of (x .lent) ≡ collect roots (heap-of l)
   pub rooms : rooms-of (x .lent) ≡ rooms-of l
   pub lists-sound : sound (x .lent) ≡ true
+  pub collected : Collects (heap-of l) roots (heap-of (x .lent))
 
 pub data Collect-left (l : Lent) (roots : List ℕ) (x : Left (Unit {0})) : Type 0 where
   accepts : Collect-accepted l roots x → Collect-left l roots x
@@ -60,6 +63,7 @@ heap-accepted l scratch roots s u =
           (subst (λ (n : ℕ). Numbered (rooms-of l) n) (sym (kept-chunk h g roots)) (numbered (header l 0) l (clauses l s .numbers))) slots
           bytes
           elements;
+      collected = subst (Collects h roots) (sym (heap-lent (rooms-of l) k fits)) (collects h g roots u);
     }
 
 -- every collection: refused it leaves the lists as they were; accepted it leaves them sound, with what the roots reach

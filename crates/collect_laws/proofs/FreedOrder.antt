@@ -3,16 +3,16 @@
 -- nothing.
 use mathlib.Core.Path.{_≡_, refl, sym, ap, _∙_}
 use mathlib.Core.Bool.{Bool, true, false, not}
-use mathlib.Core.List.{List, [], _∷_, _++_, reverse, reverseAux, reverseAux-eq}
-use Prim.Native.Nat.{ℕ, zero, suc, _+_, _<_}
+use mathlib.Core.List.{List, _∷_, _++_, reverse, reverseAux, reverseAux-eq}
+use Prim.Native.Nat.{ℕ, zero, suc, _<_}
 use native.Mathlib.Omega.{arith}
 use borrow.Author.Tests.{lt-ltb}
 use lib.Dec.{eqb}
-use lib.ListN.{length, getD}
+use lib.ListN.{getD}
 use Rattle.laws.specs.Basics.{choose, both, every, keep, member, rising, basics}
 use Rattle.laws.proofs.Lists.{length-rising, getD-rising}
 use Rattle.laws.proofs.Finding.{keep-same}
-use Rattle.rules.specs.Map.{Free, state-of, is-allocated, map-rules}
+use Rattle.rules.specs.Map.{Free, is-allocated}
 use Rattle.rules.specs.Heap.{Heap, capacity, in-use}
 use Rattle.rules.specs.Collect.{marked, free-slot, sweep, collect, collect-rules}
 use Rattle.rules.proofs.TwoBits.{state-other}

@@ -11,7 +11,9 @@ pub mod FreedOrder
 pub mod Reading
 pub mod Comparing
 pub mod KeptSame
+pub mod KeptRooms
 pub mod CellsGood
 pub mod Entries
 pub mod CollectGood
+pub mod Collecting
 pub mod CollectSound

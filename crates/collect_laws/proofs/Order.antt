@@ -1,9 +1,9 @@
 -- What stands in the new room of a packing, and in which order: nothing but blocks of slots, each block before that of any higher
 -- slot that is the first to show it. Document 01: "A collection keeps each block that a surviving slot shows, once, packed by
 -- lowest such slot". Assumes nothing.
-use mathlib.Core.Path.{_≡_, refl, sym, ap, _∙_, subst}
+use mathlib.Core.Path.{_≡_, sym, ap, _∙_}
 use mathlib.Core.Bool.{true}
-use mathlib.Core.List.{List, []}
+use mathlib.Core.List.{List}
 use mathlib.Core.Option.{none, some}
 use Prim.Native.Nat.{ℕ, zero, suc, _+_, _-_, _≤_, _<_}
 use native.Mathlib.Omega.{arith}

@@ -19,6 +19,7 @@ use Rattle.collect_laws.specs.Packs.{none-packed, all-packed, texts-of, 
 use Rattle.collect_laws.specs.Kept.{As-before, same-scalar, same-pair, symbol-moved, string-moved, vector-moved}
 use Rattle.collect_laws.proofs.Packings as packing
 use Rattle.collect_laws.proofs.Placing as placing
+use Rattle.collect_laws.proofs.Order as order
 
 -- ---- the rules' packing of all cells, as packing slot after slot
 
@@ -81,6 +82,12 @@ module _ {A : Type 0} (h : Heap) (old : List A) (shows : Cell → Block) (nothin
         packed-first (capacity h) (omega arith)
         ∙ ap (λ (cs : List Cell). pick (pack-cells h cs none-packed)) (take-all (capacity h) (h .cells) (omega arith))
 
+    -- a slot whose block stands at a place afterwards
+    pub record Shown-at (p : Packing A) (j : ℕ) : Type 0 where
+      pub slot : ℕ
+      pub low : moved-block (shown-at slot) (p .moved) .place ≤ j
+      pub high : j < moved-block (shown-at slot) (p .moved) .place + moved-block (shown-at slot) (p .moved) .size
+
     -- where a slot's block stands afterwards
     pub record Moves (p : Packing A) : Type 0 where
       pub no-longer : length (p .room) ≤ length old
@@ -90,6 +97,8 @@ module _ {A : Type 0} (h : Heap) (old : List A) (shows : Cell → Block) (nothin
       pub lies : (s : ℕ) → lies-in (length (p .room)) (moved-block (shown-at s) (p .moved)) ≡ true
       pub disjoint : (s t : ℕ) → apart (moved-block (shown-at s) (p .moved)) (moved-block (shown-at t) (p .moved)) ≡ true
       pub one : (s t : ℕ) → 0 < shown-at s .size → 0 < shown-at t .size → moved-block (shown-at s) (p .moved) ≡ moved-block (shown-at t) (p .moved) → shown-at s ≡ shown-at t
+      pub covered : (j : ℕ) → j < length (p .room) → Shown-at p j
+      pub in-order : (s t : ℕ) → s < t → 0 < shown-at s .size → 0 < shown-at t .size → ((r : ℕ) → r < t → shown-at r ≡ shown-at t → ⊥) → moved-block (shown-at s) (p .moved) .place + moved-block (shown-at s) (p .moved) .size ≤ moved-block (shown-at t) (p .moved) .place
       pub every-element : (f : A → Bool) → every f old ≡ true → every f (p .room) ≡ true
 
     pub moves : Moves (pick (all-packed h))
@@ -103,6 +112,8 @@ module _ {A : Type 0} (h : Heap) (old : List A) (shows : Cell → Block) (nothin
           lies = placing.to-lies old shown-at apart-all inside (capacity h) few;
           disjoint = placing.to-apart old shown-at apart-all inside (capacity h) few;
           one = placing.to-one old shown-at apart-all inside (capacity h) few;
+          covered = λ j l. let x = order.shown-at old shown-at apart-all inside (capacity h) few j l in record { slot = x .slot; low = x .low; high = x .high };
+          in-order = order.in-order old shown-at apart-all inside (capacity h) few;
           every-element = λ f e. placing.room-every old shown-at apart-all inside f e (capacity h);
         })
 
