@@ -54,10 +54,6 @@ module _ (h : Heap) (g : Good h) (roots : List ℕ) where
   abbrev w : Heap
   w = swept-heap roots h
 
-  pub collect-packs : collect roots h ≡ pack w
-  unfolding collect swept-heap
-  collect-packs = refl
-
   pub collect-map : collect roots h .map ≡ w .map
   unfolding collect pack swept-heap
   collect-map = refl
@@ -98,7 +94,7 @@ module _ (h : Heap) (g : Good h) (roots : List ℕ) where
         slot-used (collect roots h) s (omega (arith, kept-capacity, used-slot h s (marked-in-use h g roots u s e) .below))
         (ap (λ (m : List ℕ). state-of m s) collect-map ∙ marked-allocated h g roots u s e)
 
-    pub used-marked : (s : ℕ) → in-use (collect roots h) s ≡ true → member s (marked h roots) ≡ true
+    used-marked : (s : ℕ) → in-use (collect roots h) s ≡ true → member s (marked h roots) ≡ true
     used-marked s e = by (member s (marked h roots)) refl
       where
         by : (b : Bool) → member s (marked h roots) ≡ b → b ≡ true

@@ -95,6 +95,3 @@ module _ (h : Heap) (g : Good h) (roots : List ℕ) (u : every (in-use h) roots 
       by : (b : Bool) → member s (marked h roots) ≡ b → b ≡ false
       by true e = absurd (n (marked-reached h roots s e))
       by false e = refl
-
-  pub reached-in-use : (s : ℕ) → Reached h roots s → in-use h s ≡ true
-  reached-in-use s r = marked-in-use s (is-marked s r)

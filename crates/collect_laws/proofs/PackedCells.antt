@@ -23,7 +23,7 @@ use Rattle.collect_laws.proofs.Order as order
 
 -- ---- the rules' packing of all cells, as packing slot after slot
 
-pub pack-last : (h : Heap) (cs : List Cell) (c : Cell) (p : Packed) → pack-cells h (cs ++ (c ∷ [])) p ≡ pack-cell h c (pack-cells h cs p)
+pack-last : (h : Heap) (cs : List Cell) (c : Cell) (p : Packed) → pack-cells h (cs ++ (c ∷ [])) p ≡ pack-cell h c (pack-cells h cs p)
 unfolding collect-rules
 pack-last h [] c p = refl
 pack-last h (x ∷ cs) c p = pack-last h cs c (pack-cell h x p)
@@ -135,10 +135,10 @@ unfolding vector-block
 no-vector = refl
 
 module _ (h : Heap) (g : Blocks-sound h) where
-  abbrev pub Texts-moved : Type 0
+  abbrev Texts-moved : Type 0
   Texts-moved = Moves h (h .bytes) text-block no-text (λ p. p .texts) refl (text-packed h) (g .texts) (g .texts-in) (texts-of h)
 
-  abbrev pub Vectors-moved : Type 0
+  abbrev Vectors-moved : Type 0
   Vectors-moved = Moves h (h .elements) vector-block no-vector (λ p. p .vectors) refl (vector-packed h) (g .vectors) (g .vectors-in) (vectors-of h)
 
   pub texts-moved : Texts-moved

@@ -22,6 +22,7 @@ use Rattle.rules.specs.Collect.{Moved, Packing, place-of, moved-block}
 use Rattle.rules.specs.Sound.{lies-in, sound-rules}
 use Rattle.rules.proofs.Good.{apart}
 use Rattle.rules.proofs.Keeping.{apart-refl, apart-sym, apart-after, apart-empty}
+use Rattle.rules.proofs.PutCells.{lies-none}
 use Rattle.collect_laws.proofs.Packings.{move, same-blocks, blocks-same, none-some, place-none, place-new, place-kept, place-other}
 use Rattle.collect_laws.proofs.Packings as packing
 
@@ -193,7 +194,7 @@ module _ {A : Type 0} (old : List A) (shows : ℕ → Block) (apart-all : (s t :
     pub to-lies : (s : ℕ) → lies-in (length (packed n .room)) (to s) ≡ true
     unfolding sound-rules
     to-lies s =
-        by-size (λ t b. lies-in (length (packed n .room)) b ≡ true) s (λ z. both-true (le-leb 0 (length (packed n .room)) (omega arith)) refl)
+        by-size (λ t b. lies-in (length (packed n .room)) b ≡ true) s (λ z. lies-none (length (packed n .room)))
         (λ h w.
         both-true (le-leb (w .place + shows s .size) (length (packed n .room)) (holds n .in-room (shows s) (w .place) (w .is)))
         (either-left (eqb (w .place) 0) (ap not (ne-eqb (shows s .size) 0 (λ z. omega arith)))))

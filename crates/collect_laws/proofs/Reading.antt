@@ -23,7 +23,7 @@ pub data Reached-values (h : Heap) (roots : List ℕ) : List Value → Type 0 wh
   none-left : Reached-values h roots []
   one-more : {v : Value} {vs : List Value} → Reached-value h roots v → Reached-values h roots vs → Reached-values h roots (v ∷ vs)
 
-pub reached-values : (h : Heap) (roots : List ℕ) (vs : List Value) → ((t : ℕ) → List·Memᴰ t (slots-among vs) → Reached h roots t) → Reached-values h roots vs
+reached-values : (h : Heap) (roots : List ℕ) (vs : List Value) → ((t : ℕ) → List·Memᴰ t (slots-among vs) → Reached h roots t) → Reached-values h roots vs
 unfolding slots-among
 reached-values h roots [] p = none-left
 reached-values h roots (slot s ∷ vs) p = one-more (at-slot (p s (List·Memᴰ·head refl))) (reached-values h roots vs (λ t m. p t (List·Memᴰ·tail m)))

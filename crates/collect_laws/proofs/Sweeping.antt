@@ -89,7 +89,7 @@ abbrev pub turn : List ℕ → ℕ → Heap → Heap
 turn ms s h = elim (both (is-allocated (h .map) s) (not (member s ms))) [ true ↦ free-slot s h | false ↦ h ]
 
 -- it is freed only where it is in use and not marked
-pub turn-by : (P : Heap → Type 0) (ms : List ℕ) (s : ℕ) (h : Heap) → (state-of (h .map) s ≡ 1 → member s ms ≡ false → P (free-slot s h)) → ((state-of (h .map) s ≡ 1 → member s ms ≡ false → ⊥) → P h) → P (turn ms s h)
+turn-by : (P : Heap → Type 0) (ms : List ℕ) (s : ℕ) (h : Heap) → (state-of (h .map) s ≡ 1 → member s ms ≡ false → P (free-slot s h)) → ((state-of (h .map) s ≡ 1 → member s ms ≡ false → ⊥) → P h) → P (turn ms s h)
 unfolding map-rules
 turn-by P ms s h freed left = by (is-allocated (h .map) s) (member s ms) refl refl
   where

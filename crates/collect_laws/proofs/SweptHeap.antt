@@ -2,21 +2,21 @@
 -- blocks lie where they lay. Document 01: "It frees, in rising order, what is not reached, writes Undefined there, and puts each
 -- on top of the list." Assumes nothing.
 use mathlib.Core.Path.{_≡_, ap, _∙_}
-use mathlib.Core.Bool.{Bool, true, false}
+use mathlib.Core.Bool.{true, false}
 use mathlib.Core.List.{List, _∷_}
 use Prim.Native.Nat.{ℕ, zero, suc, _+_, _≤_, _<_}
 use native.Mathlib.Omega.{arith}
 use native.Mathlib.Decide.{decLt, ℕ-discrete}
-use borrow.Author.Tests.{le-leb}
 use lib.ListN.{length}
-use Rattle.laws.specs.Basics.{both, every, member, rising, basics}
+use Rattle.laws.specs.Basics.{every, member, rising, basics}
 use Rattle.rules.specs.Map.{Free, Allocated, state-of}
 use Rattle.rules.specs.Cells.{undefined, Block, block, Cell, plain}
 use Rattle.rules.specs.Heap.{Heap, capacity, cell-at, in-use}
 use Rattle.rules.specs.Collect.{marked, sweep, drop-entries}
-use Rattle.rules.specs.Sound.{text-block, vector-block, lies-in, sound-rules}
+use Rattle.rules.specs.Sound.{text-block, vector-block, lies-in}
 use Rattle.rules.proofs.Good.{Good, apart, used-slot, capacity-fours, free-past}
 use Rattle.rules.proofs.Keeping.{lies-below, apart-sym, apart-empty}
+use Rattle.rules.proofs.PutCells.{lies-none}
 use Rattle.collect_laws.proofs.Reach.{first-member, later-member}
 use Rattle.collect_laws.proofs.Leading.{marked-in-use}
 use Rattle.collect_laws.proofs.Sweeping.{Swept-cell, kept, wiped, sweeps, Listed, sweep-listed, sweep-frees}
@@ -36,22 +36,18 @@ good-listed h g = record { states = omega (arith, g .map-size, capacity-fours h 
 
 -- ---- blocks stay the same or disjoint, and where they were
 
-pub no-block : (used : ℕ) → lies-in used (block 0 0) ≡ true
-unfolding sound-rules
-no-block used = ap (λ (b : Bool). both b true) (le-leb 0 used (omega arith))
-
 module _ (shows : Cell → Block) (nothing : shows (plain undefined) ≡ block 0 0) (used : ℕ) (h h' : Heap) (cells : (t : ℕ) → Swept-cell (cell-at h t) (cell-at h' t)) where
-  pub lies-kept : ((t : ℕ) → lies-in used (shows (cell-at h t)) ≡ true) → (t : ℕ) → lies-in used (shows (cell-at h' t)) ≡ true
+  lies-kept : ((t : ℕ) → lies-in used (shows (cell-at h t)) ≡ true) → (t : ℕ) → lies-in used (shows (cell-at h' t)) ≡ true
   lies-kept p t = by (cells t)
     where
       by : Swept-cell (cell-at h t) (cell-at h' t) → lies-in used (shows (cell-at h' t)) ≡ true
       by (kept e) = ap (λ (c : Cell). lies-in used (shows c)) e ∙ p t
-      by (wiped e) = ap (λ (c : Cell). lies-in used (shows c)) e ∙ ap (lies-in used) nothing ∙ no-block used
+      by (wiped e) = ap (λ (c : Cell). lies-in used (shows c)) e ∙ ap (lies-in used) nothing ∙ lies-none used
 
   shows-none : (c : Cell) → c ≡ plain undefined → shows c .size ≡ 0
   shows-none c e = ap (λ (x : Cell). shows x .size) e ∙ ap (λ (b : Block). b .size) nothing
 
-  pub apart-kept : ((s t : ℕ) → apart (shows (cell-at h s)) (shows (cell-at h t)) ≡ true) → (s t : ℕ) → apart (shows (cell-at h' s)) (shows (cell-at h' t)) ≡ true
+  apart-kept : ((s t : ℕ) → apart (shows (cell-at h s)) (shows (cell-at h t)) ≡ true) → (s t : ℕ) → apart (shows (cell-at h' s)) (shows (cell-at h' t)) ≡ true
   apart-kept p s t = by (cells s) (cells t)
     where
       by : Swept-cell (cell-at h s) (cell-at h' s) → Swept-cell (cell-at h t) (cell-at h' t) → apart (shows (cell-at h' s)) (shows (cell-at h' t)) ≡ true
