@@ -1,4 +1,3 @@
-pub mod Reach
 pub mod Pushes
 pub mod Leads
 pub mod Roots

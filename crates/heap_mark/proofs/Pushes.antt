@@ -20,7 +20,7 @@ use Rattle.laws.proofs.Pointwise.{every-weaker}
 use Rattle.rules.specs.Map.{Used, state-of, set-state, set-low-bits}
 use Rattle.rules.proofs.TwoBits.{Bytes, state-past, set-state-length, state-same, state-other, stay-bytes, set-low-bits-change}
 use Rattle.heap_mark.specs.Marks.{is-marked, held, Marking, marking, push-one, push-all, standing, CanPush, Pushed, mark-rules}
-use Rattle.heap_mark.proofs.Reach.{first-member, later-member, member-cases}
+use Rattle.collect_laws.proofs.Reach.{first-member, later-member, member-cases}
 
 -- ---- one slot
 

@@ -1,23 +1,23 @@
 -- Sound lists with roots in use can be marked in the scratch that a call asks for, and what is marked then is what the rules mark.
 -- Document 01: "every slot that an Allocated cell or its elements name is Allocated". Assumes nothing.
 use mathlib.Core.Path.{_≡_, refl, sym, ap, _∙_, subst}
-use mathlib.Core.Bool.{Bool, true, false}
-use mathlib.Core.List.{List, [], _∷_, _++_}
-use Prim.Native.Nat.{ℕ, zero, suc, _+_, _-_, _*_, _/_, _≤_, _<_}
+use mathlib.Core.Bool.{true}
+use mathlib.Core.List.{List, []}
+use Prim.Native.Nat.{ℕ, _+_, _-_, _≤_, _<_}
 use native.Mathlib.Omega.{arith}
 use borrow.Author.Tests.{leb-true, eq-eqb, ne-eqb}
-use lib.Dec.{eqb, leb}
+use lib.Dec.{leb}
 use lib.ListN.{length, getD}
-use Rattle.laws.specs.Basics.{both, every, join, member, zeros, basics}
-use Rattle.laws.proofs.Tests.{both-left, both-right, both-true}
-use Rattle.laws.proofs.Pointwise.{every-at, every-weaker}
+use Rattle.laws.specs.Basics.{every, member}
+use Rattle.laws.proofs.Tests.{both-left}
+use Rattle.laws.proofs.Pointwise.{every-weaker}
 use Rattle.rules.specs.Numbers.{scratch-words}
 use Rattle.rules.specs.Map.{Used, state-of, is-allocated, set-low-bits, map-rules}
-use Rattle.rules.specs.Cells.{undefined, Value, slot, scalar, Block, Cell, plain, pair, symbol, string, vector}
-use Rattle.rules.specs.Heap.{Heap, capacity, cell-at, in-use, elements-of}
-use Rattle.rules.specs.Collect.{slots-among, leads-to, mark-all, mark-round, mark-rounds, marked}
-use Rattle.rules.specs.Layout.{Lent, rooms-of, map-bytes, filled, lent-of, heap-of, layout-rules}
-use Rattle.rules.specs.Sound.{value-named, named-in-use, vector-block, lies-in, sound, sound-rules}
+use Rattle.rules.specs.Cells.{Cell, plain, pair, symbol, string, vector}
+use Rattle.rules.specs.Heap.{Heap, capacity, cell-at, in-use}
+use Rattle.rules.specs.Collect.{leads-to, marked}
+use Rattle.rules.specs.Layout.{Lent, rooms-of, map-bytes, filled, heap-of, layout-rules}
+use Rattle.rules.specs.Sound.{vector-block, lies-in, sound, sound-rules}
 use Rattle.rules.proofs.TwoBits.{state-behind, set-low-bits-behind, set-low-bits-most}
 use Rattle.rules.proofs.SoundLaws.{clauses, bounds, lists-again}
 use Rattle.rules.proofs.Good.{Good, used-slot, used-below, settled}
@@ -25,45 +25,8 @@ use Rattle.rules.proofs.GoodSound.{sound-good}
 use Rattle.heap_sound_rows.specs.Rows.{lists}
 use Rattle.heap_sound_rows.proofs.HeapFacts.{cells-length, elements-length}
 use Rattle.heap_mark.specs.Marks.{is-marked, linked, leads, Rowed, CanMark}
-use Rattle.heap_mark.proofs.Reach.{every-member, marked-keeps}
-
--- ---- heaps that lead alike are marked alike
-
-join-same : (f g : ℕ → List ℕ) → ((s : ℕ) → f s ≡ g s) → (l : List ℕ) → join f l ≡ join g l
-unfolding basics
-join-same f g e [] = refl
-join-same f g e (x ∷ l) = λ i. e x i ++ join-same f g e l i
-
-module _ (h k : Heap) (same : (s : ℕ) → leads-to h (cell-at h s) ≡ leads-to k (cell-at k s)) where
-  rounds-same : (n : ℕ) (ms : List ℕ) → mark-rounds n h ms ≡ mark-rounds n k ms
-  unfolding mark-rounds mark-round
-  rounds-same zero ms = refl
-  rounds-same (suc n) ms =
-      rounds-same n (mark-round h ms)
-      ∙ ap (λ (l : List ℕ). mark-rounds n k (mark-all l ms))
-      (join-same (λ s. leads-to h (cell-at h s)) (λ s. leads-to k (cell-at k s)) same ms)
-
-  marked-alike : capacity h ≡ capacity k → (roots : List ℕ) → marked h roots ≡ marked k roots
-  unfolding marked
-  marked-alike size roots =
-      rounds-same (capacity h) (mark-all roots []) ∙ ap (λ (n : ℕ). mark-rounds n k (mark-all roots [])) size
-
--- ---- what a cell names
-
-slots-used : (h : Heap) (vs : List Value) → every (value-named h) vs ≡ true → every (in-use h) (slots-among vs) ≡ true
-unfolding slots-among sound-rules basics
-slots-used h [] e = refl
-slots-used h (slot s ∷ vs) e =
-    both-true (both-left (in-use h s) _ e) (slots-used h vs (both-right (in-use h s) _ e))
-slots-used h (scalar x ∷ vs) e = slots-used h vs e
-
-named-leads : (h : Heap) (c : Cell) → named-in-use h c ≡ true → every (in-use h) (leads-to h c) ≡ true
-unfolding leads-to sound-rules basics
-named-leads h (plain s) e = refl
-named-leads h (pair a d) e = both-true (both-left (in-use h a) _ e) (both-true (both-right (in-use h a) _ e) refl)
-named-leads h (symbol b) e = refl
-named-leads h (string b) e = refl
-named-leads h (vector b) e = slots-used h (elements-of h b) e
+use Rattle.collect_laws.proofs.Reach.{member-every, marked-alike}
+use Rattle.collect_laws.proofs.Leading.{leads-used, marked-in-use}
 
 -- ---- sound lists
 
@@ -135,11 +98,10 @@ module _ (words map bytes elems : List ℕ) where
         }
 
     named-all : (x : ℕ) → every (is-allocated map) (leads words elems x) ≡ true
-    unfolding sound-rules
     named-all x =
-        every-weaker (in-use held) (is-allocated map) used-allocated (leads words elems x)
-        (ap (every (in-use held)) (leads-same x)
-        ∙ named-leads held (cell-at held x) (every-at (named-in-use held) (plain undefined) (held .cells) (clauses l s .named) refl x))
+        ap (every (is-allocated map)) (leads-same x)
+        ∙ member-every (is-allocated map) (leads-to held (cell-at held x))
+        (λ t m. used-allocated t (leads-used held (cell-at held x) (g .cells x) t m))
 
     pub can-mark : (scratch roots : List ℕ) → every (in-use held) roots ≡ true → scratch-words (capacity held) ≤ length scratch → CanMark words map elems scratch roots
     unfolding is-marked filled
@@ -162,13 +124,4 @@ module _ (words map bytes elems : List ℕ) where
 
     -- only slots in use are marked
     pub marked-used : (roots : List ℕ) → every (in-use held) roots ≡ true → (x : ℕ) → member x (marked held roots) ≡ true → state-of (held .map) x ≡ 1
-    unfolding sound-rules
-    marked-used roots used x m =
-        used-slot held x
-        (marked-keeps held roots (λ t. in-use held t ≡ true) (λ t e. used-slot held t e .below)
-        (every-member (in-use held) roots used)
-        (λ t u e p.
-        every-member (in-use held) (leads-to held (cell-at held t))
-        (named-leads held (cell-at held t) (every-at (named-in-use held) (plain undefined) (held .cells) (clauses l s .named) refl t)) u p)
-        x m)
-        .state
+    marked-used roots used x m = used-slot held x (marked-in-use held g roots used x m) .state

@@ -16,7 +16,7 @@ use Rattle.laws.proofs.Tests.{true≢false, either-cases}
 use Rattle.rules.specs.Map.{state-in, state-of, set-state, map-rules}
 use Rattle.rules.proofs.TwoBits.{Bytes, set-state-length, state-same, state-other, stay-bytes}
 use Rattle.heap_mark.specs.Marks.{set-states}
-use Rattle.heap_mark.proofs.Reach.{member-cases, first-member, later-member}
+use Rattle.collect_laws.proofs.Reach.{member-cases, first-member, later-member}
 
 -- a byte is its four states
 byte-is : (b : ℕ) → b < 256 → b ≡ state-in b 0 + 4 * (state-in b 1 + 4 * (state-in b 2 + 4 * state-in b 3))

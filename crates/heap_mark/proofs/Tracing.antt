@@ -22,7 +22,7 @@ use Rattle.rules.proofs.TwoBits.{Bytes}
 use Rattle.heap_sound_rows.specs.Rows.{lists}
 use Rattle.heap_sound_rows.proofs.HeapFacts.{cells-length}
 use Rattle.heap_mark.specs.Marks.{is-marked, held, set-states, marking, standing, CanPush, Pushed, linked, leads, CanMark, marked-map, mark-rules}
-use Rattle.heap_mark.proofs.Reach.{among, is-member, every-member, member-every, marked-reached, reached-marked}
+use Rattle.collect_laws.proofs.Reach.{among, is-member, every-member, member-every, marked-reached, reached-marked}
 use Rattle.heap_mark.proofs.Pushes.{Grown, held-in-map, is-held, pushed-grown, pushed-total, pushed-size}
 use Rattle.heap_mark.proofs.States.{same-states, states-length, states-bytes, states-other, states-here}
 

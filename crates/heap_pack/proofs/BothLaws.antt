@@ -1,19 +1,20 @@
 -- Texts, then elements: the rules' packing of both. Assumes nothing.
-use mathlib.Core.Path.{_≡_, refl, sym, ap, _∙_, subst}
+use mathlib.Core.Path.{_≡_, refl, sym, ap, _∙_}
 use mathlib.Core.List.{List, [], _∷_, map}
-use Prim.Native.Nat.{ℕ, zero, suc, _*_, _≤_}
+use Prim.Native.Nat.{ℕ, _*_}
 use native.Mathlib.Omega.{arith}
 use lib.ListN.{length, getD, length-map}
-use Rattle.laws.specs.Basics.{zeros, join}
+use Rattle.laws.specs.Basics.{zeros}
 use Rattle.laws.proofs.Lists.{length-zeros, getD-zeros}
-use Rattle.rules.specs.Cells.{undefined, Value, Block, Cell, plain, pair, symbol, string, vector}
-use Rattle.rules.specs.Heap.{Heap, capacity, cell-at}
+use Rattle.rules.specs.Cells.{undefined, Cell, plain, pair, symbol, string, vector}
+use Rattle.rules.specs.Heap.{Heap, cell-at}
 use Rattle.rules.specs.Layout.{Rooms, words-of, filled}
-use Rattle.rules.specs.Collect.{Moved, Packing, Packed, pack-block, pack-cell, pack-cells, packed-cell, pack, collect-rules}
-use Rattle.rules.specs.Sound.{text-block, vector-block, lies-in}
+use Rattle.rules.specs.Collect.{Moved, Packed, pack-block, pack-cell, pack-cells, packed-cell, pack, collect-rules}
+use Rattle.rules.specs.Sound.{vector-block, lies-in}
 use Rattle.rules.proofs.Good.{apart}
-use Rattle.heap_pack.proofs.ElementLaws.{vector-packed}
-use Rattle.heap_pack.specs.Passes.{none-packed, texts-of, vectors-of, text-placed, vector-placed, with-texts, with-vectors, value-list, Texts-apart, Vectors-apart, TextsLent, TextsPacked, ElementsLent, ElementsPacked, TextsGiven, ElementsGiven, PackGiven, AllPacked}
+use Rattle.collect_laws.specs.Packs.{none-packed, texts-of, vectors-of}
+use Rattle.collect_laws.proofs.PackedCells.{vector-packed, cell-mapped}
+use Rattle.heap_pack.specs.Passes.{text-placed, vector-placed, with-texts, with-vectors, value-list, Vectors-apart, TextsLent, TextsPacked, ElementsLent, ElementsPacked, TextsGiven, ElementsGiven, AllPacked}
 
 -- room aside, all zero
 pub texts-lent : (n : ℕ) (h : Heap) (room : ℕ) (words bytes old table : List ℕ) → length old ≡ 65536 → table ≡ zeros 65536 → TextsGiven n h room words bytes → TextsLent n h room words bytes old table
@@ -55,11 +56,6 @@ vector-kept ms (pair a d) = refl
 vector-kept ms (symbol b) = refl
 vector-kept ms (string b) = refl
 vector-kept ms (vector b) = refl
-
-cell-mapped : (f : Cell → Cell) (cs : List Cell) (s : ℕ) (d : Cell) → f d ≡ d → getD (map f cs) s d ≡ f (getD cs s d)
-cell-mapped f [] s d e = sym e
-cell-mapped f (c ∷ cs) zero d e = refl
-cell-mapped f (c ∷ cs) (suc s) d e = cell-mapped f cs s d e
 
 module _ (h : Heap) where
   block-kept : (s : ℕ) → vector-block (cell-at (with-texts h) s) ≡ vector-block (cell-at h s)

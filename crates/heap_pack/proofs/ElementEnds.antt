@@ -1,5 +1,5 @@
 -- Before and after the pass over the elements, three words each. Assumes nothing.
-use mathlib.Core.Path.{_≡_, refl, sym, ap, _∙_}
+use mathlib.Core.Path.{_≡_, sym, ap, _∙_}
 use mathlib.Core.List.{List}
 use Prim.Native.Nat.{ℕ, _-_, _*_, _≤_}
 use native.Mathlib.Omega.{arith}
@@ -7,11 +7,12 @@ use borrow.Rule.Slice.PartMut.{putMid, midOf}
 use lib.ListN.{length, getD, take, set}
 use Rattle.laws.specs.Basics.{zeros}
 use Rattle.rules.specs.Heap.{Heap}
-use Rattle.rules.specs.Layout.{words-of, filled, layout-rules}
+use Rattle.rules.specs.Layout.{words-of, layout-rules}
 use Rattle.rules.proofs.LentLaws.{words-length, filled-length, elements-length}
 use Rattle.leaf_cells.specs.Words.{stored}
 use Rattle.leaf_cells.proofs.CallLaws.{stored-length}
-use Rattle.heap_pack.specs.Passes.{vectors-of, with-vectors, value-list, ElementsBegin, ElementsEnd, ElementsLent, ElementsPacked}
+use Rattle.collect_laws.specs.Packs.{vectors-of}
+use Rattle.heap_pack.specs.Passes.{with-vectors, value-list, ElementsBegin, ElementsEnd, ElementsLent, ElementsPacked}
 use Rattle.heap_pack.proofs.RoomLaws.{front-is, copied, now-long, cleared-behind}
 use Rattle.heap_pack.proofs.ElementLaws.{no-longer}
 

@@ -1,7 +1,7 @@
 -- The pass over the elements, slot by slot, three words each. Assumes nothing.
 use mathlib.Core.Path.{_≡_, refl, sym, ap, _∙_, subst}
 use mathlib.Core.Bool.{Bool, true, false, not, true≢false}
-use mathlib.Core.List.{List, [], _∷_, _++_, map, append-nil, append-assoc}
+use mathlib.Core.List.{List, [], _∷_, _++_, append-assoc}
 use mathlib.Core.Option.{Option, none, some}
 use Prim.Native.Nat.{ℕ, zero, suc, _+_, _-_, _*_, _/_, _≤_, _<_}
 use native.Mathlib.Omega.{arith}
@@ -9,24 +9,26 @@ use native.Mathlib.Numerals.{add-one}
 use borrow.Author.Tests.{leb-true, eqb-true, eq-eqb}
 use lib.Dec.{eqb, leb}
 use lib.ListN.{take-append-drop, length, getD, take, drop, set, length-append, length-drop, length-set}
-use lib.Seq.{take-nil, drop-nil, take-suc, take-all, take-at, drop-at, drop-drop, take-append-add, drop-append-add}
-use Rattle.laws.specs.Basics.{choose, both, either, join, basics}
+use lib.Seq.{take-nil, drop-nil, take-at, drop-at, drop-drop, take-append-add, drop-append-add}
+use Rattle.laws.specs.Basics.{choose, either, join, basics}
 use Rattle.laws.proofs.Tests.{both-left, both-right, join-append}
 use Rattle.laws.proofs.Pointwise.{part-append}
 use Rattle.rules.specs.Cells.{undefined, Value, Block, block, Cell, plain, pair, symbol, string, vector}
-use Rattle.rules.specs.Heap.{Heap, capacity, cell-at, part-of, with-cell}
-use Rattle.rules.specs.Layout.{words-of, filled, value-words, layout-rules}
-use Rattle.rules.specs.Collect.{Moved, Packing, Packed, place-of, pack-block, moved-block, pack-cell, pack-cells, collect-rules}
-use Rattle.rules.specs.Sound.{vector-block, lies-in, sound-rules}
+use Rattle.rules.specs.Heap.{Heap, capacity, cell-at, part-of}
+use Rattle.rules.specs.Layout.{words-of, filled, value-words}
+use Rattle.rules.specs.Collect.{Packing, place-of, moved-block, collect-rules}
+use Rattle.rules.specs.Sound.{vector-block, sound-rules}
 use Rattle.rules.proofs.LentLaws.{value-width, words-length, filled-length, elements-length}
 use Rattle.leaf_cells.specs.Cells.{loaded, stored-cell}
 use Rattle.leaf_cells.proofs.CallLaws.{load-on}
 use Rattle.leaf_cells.proofs.HeapLaws.{stored-cell-is}
-use Rattle.heap_pack.specs.declared.Gone.{Gone}
 use Rattle.heap_pack.specs.Moves.{placed, Written, ElementsMoved, ElementsReady, ElementsTurned, no-vector, vector-goes}
-use Rattle.heap_pack.specs.Passes.{none-packed, value-list, vectors-of, vector-placed, with-cells, changed, Vectors-apart, ElementsBegin, ElementsEnd}
-use Rattle.heap_pack.proofs.Packings as packing
-use Rattle.heap_pack.proofs.TextLaws.{pack-last, changed-at, changed-next, changed-same, changed-all, changed-length, capacity-in}
+use Rattle.heap_pack.specs.Passes.{value-list, vector-placed, with-cells, changed, Vectors-apart, ElementsBegin, ElementsEnd}
+use Rattle.collect_laws.specs.Packs.{vectors-of}
+use Rattle.collect_laws.proofs.PackedCells.{vector-packed, packed-whole, no-vector as no-block}
+use Rattle.collect_laws.proofs.Packings as packing
+use Rattle.heap_pack.proofs.Tables as tables
+use Rattle.heap_pack.proofs.TextLaws.{changed-at, changed-next, changed-same, changed-all, changed-length, capacity-in}
 
 -- ---- three words an element
 
@@ -62,16 +64,6 @@ part-values vs b = ap (take (3 * b .size)) (drop-values (b .place) vs) ∙ take-
 pub values-append : (vs ws : List Value) → value-list (vs ++ ws) ≡ value-list vs ++ value-list ws
 values-append vs ws = join-append value-words vs ws
 
--- ---- the rules' packing of all cells, as packing slot after slot
-
-pub vector-packed : (h : Heap) (c : Cell) (p : Packed) → pack-cell h c p .vectors ≡ pack-block (h .elements) (vector-block c) (p .vectors)
-unfolding collect-rules sound-rules
-vector-packed h (plain s) p = refl
-vector-packed h (pair a d) p = refl
-vector-packed h (symbol b) p = refl
-vector-packed h (string b) p = refl
-vector-packed h (vector b) p = refl
-
 module _ (h : Heap) (good : Vectors-apart h) where
   abbrev shows : ℕ → Block
   shows t = vector-block (cell-at h t)
@@ -83,19 +75,8 @@ module _ (h : Heap) (good : Vectors-apart h) where
   abbrev packed : ℕ → Packing Value
   packed s = packing.packed (h .elements) shows (good .apart-all) inside s
 
-  packed-is : (s : ℕ) → s ≤ capacity h → packed s ≡ pack-cells h (take s (h .cells)) none-packed .vectors
-  unfolding packing.packed collect-rules
-  packed-is zero l = refl
-  packed-is (suc s) l =
-      ap (pack-block (h .elements) (shows s)) (packed-is s (omega arith))
-      ∙ sym (vector-packed h (cell-at h s) (pack-cells h (take s (h .cells)) none-packed))
-      ∙ ap (λ (p : Packed). p .vectors) (sym (pack-last h (take s (h .cells)) (cell-at h s) none-packed))
-      ∙ ap (λ (cs : List Cell). pack-cells h cs none-packed .vectors) (sym (take-suc (h .cells) s (plain undefined) (omega arith)))
-
   pub packed-all : packed (capacity h) ≡ vectors-of h
-  packed-all =
-      packed-is (capacity h) (omega arith)
-      ∙ ap (λ (cs : List Cell). pack-cells h cs none-packed .vectors) (take-all (capacity h) (h .cells) (omega arith))
+  packed-all = packed-whole h (h .elements) vector-block no-block (λ p. p .vectors) refl (vector-packed h) (good .apart-all) inside
 
   -- packed elements are no more than they were
   pub no-longer : length (vectors-of h .room) ≤ length (h .elements)
@@ -115,7 +96,7 @@ module _ (h : Heap) (good : Vectors-apart h) where
     pub words-are : words ≡ words-of n (with-cells h (changed f s (h .cells)))
     pub long : at ≡ length (packed s .room)
     pub elems-are : elems ≡ value-list (packed s .room) ++ drop (3 * at) (filled (3 * room) (value-list (h .elements)))
-    pub listed : packing.Tabled (h .elements) shows (good .apart-all) inside (packed s) table
+    pub listed : tables.Tabled (h .elements) shows (good .apart-all) inside (packed s) table
     pub table-long : length table ≡ 16384
 
   module _ (n room : ℕ) (words₀ elems₀ old table₀ : List ℕ) (b : ElementsBegin n h room words₀ elems₀ old table₀) where
@@ -126,7 +107,7 @@ module _ (h : Heap) (good : Vectors-apart h) where
           words-are = b .words-are;
           long = refl;
           elems-are = b .elems-are;
-          listed = packing.tabled-none (h .elements) shows (good .apart-all) inside table₀ (b .table-clear);
+          listed = tables.tabled-none (h .elements) shows (good .apart-all) inside table₀ (b .table-clear);
           table-long = b .table-long;
         }
 
@@ -169,7 +150,7 @@ module _ (h : Heap) (good : Vectors-apart h) where
               record {
                 inside = omega (arith, inside s, b .old-long);
                 listed = omega (arith, inside s, b .within, b .most, g .table-long);
-                fits = λ z. omega (arith, packing.table-fits (h .elements) shows (good .apart-all) inside s table (g .listed) held z, g .long, b .within, room-long);
+                fits = λ z. omega (arith, tables.table-fits (h .elements) shows (good .apart-all) inside s table (g .listed) held z, g .long, b .within, room-long);
                 begins = omega (arith, packing.room-small (h .elements) shows (good .apart-all) inside s, g .long, b .within, room-long);
                 small = omega (arith, packing.room-small (h .elements) shows (good .apart-all) inside s, g .long, b .within, b .most);
               }
@@ -277,7 +258,7 @@ module _ (h : Heap) (good : Vectors-apart h) where
             words-are = e1 ∙ g .words-are ∙ ap (λ (cs : List Cell). words-of n (with-cells h cs)) (changed-same f s (h .cells) (plain undefined) below (empty-same empty));
             long = e4 ∙ g .long ∙ ap (λ (x : Packing Value). length (x .room)) (sym p);
             elems-are = e2 ∙ g .elems-are ∙ (λ i. value-list (sym p i .room) ++ drop (3 * sym e4 i) (filled (3 * room) (value-list (h .elements))));
-            listed = subst (λ (x : Packing Value). packing.Tabled (h .elements) shows (good .apart-all) inside x table′) (sym p) (subst (packing.Tabled (h .elements) shows (good .apart-all) inside (packed s)) (sym e3) (g .listed));
+            listed = subst (λ (x : Packing Value). tables.Tabled (h .elements) shows (good .apart-all) inside x table′) (sym p) (subst (tables.Tabled (h .elements) shows (good .apart-all) inside (packed s)) (sym e3) (g .listed));
             table-long = ap length e3 ∙ g .table-long;
           }
       next words′ elems′ table′ r (vector-goes gone held m w q) =
@@ -297,9 +278,9 @@ module _ (h : Heap) (good : Vectors-apart h) where
           at-shows : ElementsMoved elems old table at (shows s .place) (shows s .size) elems′ table′ gone
           at-shows = subst (λ (x : Block). ElementsMoved elems old table at (x .place) (x .size) elems′ table′ gone) size-is m
 
-          st : packing.Stepped (h .elements) shows (good .apart-all) inside s at table (gone .to) (gone .at) table′
+          st : tables.Stepped (h .elements) shows (good .apart-all) inside s at table (gone .to) (gone .at) table′
           st =
-              packing.step (h .elements) shows (good .apart-all) inside s at table (gone .to) (gone .at) table′ (g .long) (g .listed) holds
+              tables.step (h .elements) shows (good .apart-all) inside s at table (gone .to) (gone .at) table′ (g .long) (g .listed) holds
               (omega (arith, holds, inside s, b .within, b .most, g .table-long)) (at-shows .to) (at-shows .end) (at-shows .table-is)
 
           kept : (t : Bool) → length (choose t (set table (shows s .place) (at + 1)) table) ≡ 16384

@@ -1,4 +1,4 @@
-pub mod Packings
+pub mod Tables
 pub mod CellLaws
 pub mod MoveLaws
 pub mod TurnLaws

@@ -1,5 +1,5 @@
 -- Before and after the pass over the texts: the arena copied aside, the rest cleared, the room in use noted. Assumes nothing.
-use mathlib.Core.Path.{_≡_, refl, sym, ap, _∙_}
+use mathlib.Core.Path.{_≡_, ap, _∙_}
 use mathlib.Core.List.{List}
 use Prim.Native.Nat.{ℕ, _-_, _≤_}
 use native.Mathlib.Omega.{arith}
@@ -7,11 +7,12 @@ use borrow.Rule.Slice.PartMut.{putMid, midOf}
 use lib.ListN.{length, getD, take, set}
 use Rattle.laws.specs.Basics.{zeros}
 use Rattle.rules.specs.Heap.{Heap}
-use Rattle.rules.specs.Layout.{words-of, filled, layout-rules}
+use Rattle.rules.specs.Layout.{words-of, layout-rules}
 use Rattle.rules.proofs.LentLaws.{words-length, filled-length}
 use Rattle.leaf_cells.specs.Words.{stored}
 use Rattle.leaf_cells.proofs.CallLaws.{stored-length}
-use Rattle.heap_pack.specs.Passes.{texts-of, with-texts, TextsBegin, TextsEnd, TextsLent, TextsPacked}
+use Rattle.collect_laws.specs.Packs.{texts-of}
+use Rattle.heap_pack.specs.Passes.{with-texts, TextsBegin, TextsEnd, TextsLent, TextsPacked}
 use Rattle.heap_pack.proofs.RoomLaws.{front-is, copied, now-long, cleared-behind}
 use Rattle.heap_pack.proofs.TextLaws.{no-longer}
 

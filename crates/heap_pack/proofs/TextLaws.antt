@@ -1,46 +1,33 @@
 -- The pass over the texts, slot by slot. Assumes nothing.
 use mathlib.Core.Path.{_≡_, refl, sym, ap, _∙_, subst}
 use mathlib.Core.Bool.{Bool, true, false, not, true≢false}
-use mathlib.Core.List.{List, [], _∷_, _++_, map, append-nil, append-assoc}
+use mathlib.Core.List.{List, [], _∷_, _++_, map, append-assoc}
 use mathlib.Core.Option.{Option, none, some}
-use Prim.Native.Nat.{ℕ, zero, suc, _+_, _-_, _*_, _≤_, _<_}
+use Prim.Native.Nat.{ℕ, zero, suc, _+_, _-_, _≤_, _<_}
 use native.Mathlib.Omega.{arith}
 use native.Mathlib.Numerals.{add-one}
 use borrow.Author.Tests.{leb-true, eqb-true, eq-eqb}
 use lib.Dec.{eqb, leb}
 use lib.ListN.{take-append-drop, length, getD, take, drop, set, length-append, length-drop, length-set}
-use lib.Seq.{take-suc, take-all, take-at, drop-at, drop-drop}
-use Rattle.laws.specs.Basics.{choose, both, either, join, basics}
+use lib.Seq.{take-at, drop-at, drop-drop}
+use Rattle.laws.specs.Basics.{choose, either}
 use Rattle.laws.proofs.Tests.{both-left, both-right}
 use Rattle.laws.proofs.Pointwise.{part-append}
-use Rattle.rules.specs.Cells.{undefined, Value, Block, block, Cell, plain, pair, symbol, string, vector}
-use Rattle.rules.specs.Heap.{Heap, capacity, cell-at, part-of, with-cell}
-use Rattle.rules.specs.Layout.{words-of, filled, value-words, layout-rules}
-use Rattle.rules.specs.Collect.{Moved, Packing, Packed, place-of, pack-block, moved-block, pack-cell, pack-cells, collect-rules}
-use Rattle.rules.specs.Sound.{text-block, vector-block, lies-in, sound-rules}
+use Rattle.rules.specs.Cells.{undefined, Block, block, Cell, plain, pair, symbol, string, vector}
+use Rattle.rules.specs.Heap.{Heap, capacity, cell-at, part-of}
+use Rattle.rules.specs.Layout.{words-of, filled, layout-rules}
+use Rattle.rules.specs.Collect.{Packing, place-of, moved-block, collect-rules}
+use Rattle.rules.specs.Sound.{text-block, sound-rules}
 use Rattle.rules.proofs.LentLaws.{words-length, filled-length}
 use Rattle.leaf_cells.specs.Cells.{loaded, stored-cell}
 use Rattle.leaf_cells.proofs.CallLaws.{load-on}
 use Rattle.leaf_cells.proofs.HeapLaws.{stored-cell-is}
-use Rattle.heap_pack.specs.declared.Gone.{Gone}
 use Rattle.heap_pack.specs.Moves.{placed, Written, TextMoved, TextReady, TextTurned, no-text, text-goes}
-use Rattle.heap_pack.specs.Passes.{none-packed, texts-of, text-placed, with-cells, changed, Texts-apart, TextsBegin, TextsEnd}
-use Rattle.heap_pack.proofs.Packings as packing
-
--- ---- the rules' packing of all cells, as packing slot after slot
-
-pub pack-last : (h : Heap) (cs : List Cell) (c : Cell) (p : Packed) → pack-cells h (cs ++ (c ∷ [])) p ≡ pack-cell h c (pack-cells h cs p)
-unfolding collect-rules
-pack-last h [] c p = refl
-pack-last h (x ∷ cs) c p = pack-last h cs c (pack-cell h x p)
-
-text-packed : (h : Heap) (c : Cell) (p : Packed) → pack-cell h c p .texts ≡ pack-block (h .bytes) (text-block c) (p .texts)
-unfolding collect-rules sound-rules
-text-packed h (plain s) p = refl
-text-packed h (pair a d) p = refl
-text-packed h (symbol b) p = refl
-text-packed h (string b) p = refl
-text-packed h (vector b) p = refl
+use Rattle.heap_pack.specs.Passes.{text-placed, with-cells, changed, Texts-apart, TextsBegin, TextsEnd}
+use Rattle.collect_laws.specs.Packs.{texts-of}
+use Rattle.collect_laws.proofs.PackedCells.{text-packed, packed-whole, no-text as no-block}
+use Rattle.collect_laws.proofs.Packings as packing
+use Rattle.heap_pack.proofs.Tables as tables
 
 -- ---- the first cells changed
 
@@ -81,19 +68,8 @@ module _ (h : Heap) (good : Texts-apart h) where
   abbrev packed : ℕ → Packing ℕ
   packed s = packing.packed (h .bytes) shows (good .apart-all) inside s
 
-  packed-is : (s : ℕ) → s ≤ capacity h → packed s ≡ pack-cells h (take s (h .cells)) none-packed .texts
-  unfolding packing.packed collect-rules
-  packed-is zero l = refl
-  packed-is (suc s) l =
-      ap (pack-block (h .bytes) (shows s)) (packed-is s (omega arith))
-      ∙ sym (text-packed h (cell-at h s) (pack-cells h (take s (h .cells)) none-packed))
-      ∙ ap (λ (p : Packed). p .texts) (sym (pack-last h (take s (h .cells)) (cell-at h s) none-packed))
-      ∙ ap (λ (cs : List Cell). pack-cells h cs none-packed .texts) (sym (take-suc (h .cells) s (plain undefined) (omega arith)))
-
   pub packed-all : packed (capacity h) ≡ texts-of h
-  packed-all =
-      packed-is (capacity h) (omega arith)
-      ∙ ap (λ (cs : List Cell). pack-cells h cs none-packed .texts) (take-all (capacity h) (h .cells) (omega arith))
+  packed-all = packed-whole h (h .bytes) text-block no-block (λ p. p .texts) refl (text-packed h) (good .apart-all) inside
 
   -- packed texts are no more than they were
   pub no-longer : length (texts-of h .room) ≤ length (h .bytes)
@@ -113,7 +89,7 @@ module _ (h : Heap) (good : Texts-apart h) where
     pub words-are : words ≡ words-of n (with-cells h (changed f s (h .cells)))
     pub long : at ≡ length (packed s .room)
     pub bytes-are : bytes ≡ packed s .room ++ drop at (filled room (h .bytes))
-    pub listed : packing.Tabled (h .bytes) shows (good .apart-all) inside (packed s) table
+    pub listed : tables.Tabled (h .bytes) shows (good .apart-all) inside (packed s) table
     pub table-long : length table ≡ 65536
 
   module _ (n room : ℕ) (words₀ bytes₀ old table₀ : List ℕ) (b : TextsBegin n h room words₀ bytes₀ old table₀) where
@@ -124,7 +100,7 @@ module _ (h : Heap) (good : Texts-apart h) where
           words-are = b .words-are;
           long = refl;
           bytes-are = b .bytes-are;
-          listed = packing.tabled-none (h .bytes) shows (good .apart-all) inside table₀ (b .table-clear);
+          listed = tables.tabled-none (h .bytes) shows (good .apart-all) inside table₀ (b .table-clear);
           table-long = b .table-long;
         }
 
@@ -166,7 +142,7 @@ module _ (h : Heap) (good : Texts-apart h) where
               record {
                 inside = omega (arith, inside s, b .old-long);
                 listed = omega (arith, inside s, b .within, b .most, g .table-long);
-                fits = λ z. omega (arith, packing.table-fits (h .bytes) shows (good .apart-all) inside s table (g .listed) held z, g .long, b .within, room-long);
+                fits = λ z. omega (arith, tables.table-fits (h .bytes) shows (good .apart-all) inside s table (g .listed) held z, g .long, b .within, room-long);
                 begins = omega (arith, packing.room-small (h .bytes) shows (good .apart-all) inside s, g .long, b .within, room-long);
                 small = omega (arith, packing.room-small (h .bytes) shows (good .apart-all) inside s, g .long, b .within, b .most);
               }
@@ -262,7 +238,7 @@ module _ (h : Heap) (good : Texts-apart h) where
             words-are = e1 ∙ g .words-are ∙ ap (λ (cs : List Cell). words-of n (with-cells h cs)) (changed-same f s (h .cells) (plain undefined) below (empty-same empty));
             long = e4 ∙ g .long ∙ ap (λ (x : Packing ℕ). length (x .room)) (sym p);
             bytes-are = e2 ∙ g .bytes-are ∙ (λ i. sym p i .room ++ drop (sym e4 i) (filled room (h .bytes)));
-            listed = subst (λ (x : Packing ℕ). packing.Tabled (h .bytes) shows (good .apart-all) inside x table′) (sym p) (subst (packing.Tabled (h .bytes) shows (good .apart-all) inside (packed s)) (sym e3) (g .listed));
+            listed = subst (λ (x : Packing ℕ). tables.Tabled (h .bytes) shows (good .apart-all) inside x table′) (sym p) (subst (tables.Tabled (h .bytes) shows (good .apart-all) inside (packed s)) (sym e3) (g .listed));
             table-long = ap length e3 ∙ g .table-long;
           }
       next words′ bytes′ table′ r (text-goes gone held m w q) =
@@ -282,9 +258,9 @@ module _ (h : Heap) (good : Texts-apart h) where
           at-shows : TextMoved bytes old table at (shows s .place) (shows s .size) bytes′ table′ gone
           at-shows = subst (λ (x : Block). TextMoved bytes old table at (x .place) (x .size) bytes′ table′ gone) size-is m
 
-          st : packing.Stepped (h .bytes) shows (good .apart-all) inside s at table (gone .to) (gone .at) table′
+          st : tables.Stepped (h .bytes) shows (good .apart-all) inside s at table (gone .to) (gone .at) table′
           st =
-              packing.step (h .bytes) shows (good .apart-all) inside s at table (gone .to) (gone .at) table′ (g .long) (g .listed) holds
+              tables.step (h .bytes) shows (good .apart-all) inside s at table (gone .to) (gone .at) table′ (g .long) (g .listed) holds
               (omega (arith, holds, inside s, b .within, b .most, g .table-long)) (at-shows .to) (at-shows .end) (at-shows .table-is)
 
           kept : (t : Bool) → length (choose t (set table (shows s .place) (at + 1)) table) ≡ 65536

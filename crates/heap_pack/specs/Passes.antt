@@ -1,25 +1,17 @@
 -- The two passes of packing, texts and then elements, and how far each has come. Assumes nothing.
 use mathlib.Core.Path.{_≡_}
 use mathlib.Core.Bool.{true}
-use mathlib.Core.List.{List, [], _∷_, _++_, map}
+use mathlib.Core.List.{List, _++_, map}
 use Prim.Native.Nat.{ℕ, _*_, _≤_}
 use lib.ListN.{length, getD, take, drop}
 use Rattle.laws.specs.Basics.{join}
-use Rattle.rules.specs.Cells.{Value, Block, block, Cell, plain, pair, symbol, string, vector}
+use Rattle.rules.specs.Cells.{Value, Cell, plain, pair, symbol, string, vector}
 use Rattle.rules.specs.Heap.{Heap, capacity, cell-at}
 use Rattle.rules.specs.Layout.{Rooms, words-of, filled, value-words}
-use Rattle.rules.specs.Collect.{Moved, Packing, Packed, pack-cells, moved-block, pack}
+use Rattle.rules.specs.Collect.{Moved, moved-block, pack}
 use Rattle.rules.specs.Sound.{text-block, vector-block, lies-in}
 use Rattle.rules.proofs.Good.{apart}
-
-abbrev pub none-packed : Packed
-none-packed = record { texts = record { room = []; moved = [] }; vectors = record { room = []; moved = [] } }
-
-abbrev pub texts-of : Heap → Packing ℕ
-texts-of h = pack-cells h (h .cells) none-packed .texts
-
-abbrev pub vectors-of : Heap → Packing Value
-vectors-of h = pack-cells h (h .cells) none-packed .vectors
+use Rattle.collect_laws.specs.Packs.{texts-of, vectors-of}
 
 -- a cell whose text was moved
 abbrev pub text-placed : List Moved → Cell → Cell

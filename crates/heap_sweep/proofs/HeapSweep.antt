@@ -3,49 +3,44 @@
 use mathlib.Core.Path.{_≡_, refl, sym, ap, _∙_, subst}
 use mathlib.Core.Bool.{Bool, true, false, not}
 use mathlib.Core.List.{List, [], _∷_, _++_}
-use Prim.Native.Nat.{ℕ, zero, suc, _+_, _-_, _*_, _/_, _%_, _≤_, _<_}
+use Prim.Native.Nat.{ℕ, zero, suc, _+_, _-_, _/_, _≤_, _<_}
 use native.Mathlib.Omega.{arith}
 use native.Mathlib.Decide.{ℕ-discrete, decLt}
-use borrow.Author.Tests.{eq-eqb, ne-eqb, eqb-true, lt-ltb}
-use lib.Dec.{eqb, ltb}
-use lib.ListN.{length, getD, length-append, length-set}
-use Rattle.laws.specs.Basics.{choose, both, every, member, count, keep, rising, basics}
+use borrow.Author.Tests.{eq-eqb, ne-eqb, eqb-true}
+use lib.Dec.{eqb}
+use lib.ListN.{length, length-append, length-set}
+use Rattle.laws.specs.Basics.{choose, both, member, count, keep, rising, basics}
 use Rattle.laws.proofs.Tests.{true≢false}
 use Rattle.laws.proofs.Lists.{count-rising-in}
 use Rattle.laws.proofs.Stores.{getD-before-zeros}
 use Rattle.laws.proofs.Pointwise.{count-here, count-other, count-append, count-rising-past, past-count}
 use Rattle.rules.specs.Map.{Free, Allocated, Used, state-of, set-state, is-allocated, map-rules}
 use Rattle.rules.specs.Cells.{undefined, plain}
-use Rattle.rules.specs.Heap.{Heap, capacity, with-cell}
-use Rattle.rules.specs.Collect.{free-slot, sweep, drop-entries, collect-rules}
+use Rattle.rules.specs.Heap.{Heap, capacity}
+use Rattle.rules.specs.Collect.{free-slot, sweep, drop-entries}
 use Rattle.rules.specs.Layout.{words-of, filled, layout-rules}
 use Rattle.rules.proofs.TwoBits.{Bytes, state-past, state-behind, set-state-length, state-same, state-other, stay-bytes}
 use Rattle.rules.proofs.LentLaws.{words-length, filled-length}
 use Rattle.rules.proofs.Good.{Good, each-once, used-below, capacity-fours}
-use Rattle.leaf_free.specs.FreeList.{capacity-of}
 use Rattle.leaf_free.proofs.FreeWords.{with-free, push-words, capacity-word, count-word}
 use Rattle.leaf_cells.specs.Cells.{stored-cell}
 use Rattle.leaf_cells.proofs.HeapLaws.{stored-cell-is}
 use Rattle.leaf_symbols.specs.Table.{dropped}
 use Rattle.leaf_symbols.proofs.TableLaws.{dropped-is}
+use Rattle.collect_laws.proofs.Sweeping.{turn, turn-sweeps, sweeps, Listed, freed-here, freed-listed}
+use Rattle.collect_laws.proofs.SweptHeap.{good-listed}
 use Rattle.heap_mark.specs.Marks.{set-states}
 use Rattle.heap_mark.proofs.States.{same-states, states-length, states-bytes, states-here, states-other}
-use Rattle.heap_sweep.specs.Sweeps.{Swept, swept, freed, kept, sweep-slot, sweep-slots, sweep-all, sweep-dropped, doomed, CanSweep, CanDrop, sweep-words}
+use Rattle.heap_sweep.specs.Sweeps.{Swept, swept, freed, kept, sweep-slot, sweep-slots, sweep-all, sweep-dropped, doomed, CanSweep, CanDrop}
 use Rattle.heap_sweep.proofs.SlotLaws.{slot-used, slot-allocated, slot-free}
 
 -- ---- a heap that is being swept
 
--- every slot is in use, or on the list once; the map has a state for each
-pub record Listed (n : ℕ) (h : Heap) : Type 0 where
-  pub within : capacity h ≤ n
-  pub states : capacity h ≡ 4 * length (h .map)
-  pub once : (s : ℕ) → s < capacity h → count s (h .free) + state-of (h .map) s ≡ 1
-  pub past : (s : ℕ) → capacity h ≤ s → count s (h .free) ≡ 0
-  pub bytes : Bytes (h .map)
-
 -- up to slot a it is swept; from there on the lent map has Used at the marked slots, all of them in use
 pub record Between (n room : ℕ) (ms : List ℕ) (a : ℕ) (h : Heap) (m : List ℕ) : Type 0 where
-  pub listed : Listed n h
+  pub within : capacity h ≤ n
+  pub listed : Listed h
+  pub states : Bytes (h .map)
   pub size : length m ≡ room
   pub fits : length (h .map) ≤ room
   pub bytes : Bytes m
@@ -54,7 +49,7 @@ pub record Between (n room : ℕ) (ms : List ℕ) (a : ℕ) (h : Heap) (m : List
   pub in-use : (s : ℕ) → a ≤ s → member s ms ≡ true → state-of (h .map) s ≡ Allocated
   pub others : (s : ℕ) → a ≤ s → member s ms ≡ false → state-of m s ≡ state-of (h .map) s
 
-module _ (n : ℕ) (h : Heap) (g : Listed n h) where
+module _ (n : ℕ) (h : Heap) (g : Listed h) (within : capacity h ≤ n) where
   in-map : (s : ℕ) → s < capacity h → s / 4 < length (h .map)
   in-map s l = omega (arith, g .states)
 
@@ -64,7 +59,7 @@ module _ (n : ℕ) (h : Heap) (g : Listed n h) where
   list-room s l e =
       let past : (t : ℕ) → capacity h ≤ t → count t (s ∷ h .free) ≡ 0 = λ t k. count-other t s (h .free) (λ q. omega arith) ∙ g .past t k in
       let few = each-once (capacity h) (s ∷ h .free) (past-count (capacity h) (s ∷ h .free) past) (λ t k. at-most t k) in
-      omega (arith, few, g .within)
+      omega (arith, few, within)
     where
       at-most : (t : ℕ) → t < capacity h → count t (s ∷ h .free) ≤ 1
       at-most t k =
@@ -74,49 +69,13 @@ module _ (n : ℕ) (h : Heap) (g : Listed n h) where
           ]
 
   -- a slot freed
-  module _ (a : ℕ) (l : a < capacity h) (e : state-of (h .map) a ≡ Allocated) where
-    freed-words : stored-cell (Rattle.leaf_free.specs.FreeList.pushed (words-of n h) a) a (plain undefined) ≡ words-of n (free-slot a h)
-    unfolding free-slot layout-rules
-    freed-words =
-        ap (λ (ws : List ℕ). stored-cell ws a (plain undefined)) (push-words n h a (list-room a l e))
-        ∙ stored-cell-is n (with-free h (a ∷ h .free)) a (plain undefined) l (g .within)
-
-    here : state-of (set-state (h .map) a Free) a ≡ Free
-    here = state-same (h .map) a Free (omega arith) (in-map a l)
-
-    freed-once : (s : ℕ) → s < capacity h → count s (a ∷ h .free) + state-of (set-state (h .map) a Free) s ≡ 1
-    freed-once s k =
-        elim (ℕ-discrete s a) [
-          | yes q ↦
-              omega (
-                arith,
-                count-here s a (h .free) q,
-                g .once a l,
-                ap (λ (x : ℕ). count x (h .free)) q,
-                ap (state-of (set-state (h .map) a Free)) q,
-                here,
-              )
-          | no d ↦ omega (arith, count-other s a (h .free) d, state-other (h .map) a Free (omega arith) s d, g .once s k)
-        ]
-
-    freed-listed : Listed n (free-slot a h)
-    unfolding free-slot
-    freed-listed =
-        let size = length-set (h .cells) a (plain undefined) in
-        let bytes = set-state-length (h .map) a Free in
-        record {
-          within = omega (arith, g .within);
-          states = omega (arith, g .states);
-          once = λ s k. freed-once s (omega arith);
-          past = λ s k. count-other s a (h .free) (λ q. omega arith) ∙ g .past s (omega arith);
-          bytes = stay-bytes (h .map) a Free (omega arith) (g .bytes);
-        }
+  freed-words : (a : ℕ) → a < capacity h → state-of (h .map) a ≡ Allocated → stored-cell (Rattle.leaf_free.specs.FreeList.pushed (words-of n h) a) a (plain undefined) ≡ words-of n (free-slot a h)
+  unfolding free-slot layout-rules
+  freed-words a l e =
+      ap (λ (ws : List ℕ). stored-cell ws a (plain undefined)) (push-words n h a (list-room a l e))
+      ∙ stored-cell-is n (with-free h (a ∷ h .free)) a (plain undefined) l within
 
 -- ---- one slot
-
--- what the rules do with a slot
-abbrev one : List ℕ → ℕ → Heap → Heap
-one ms s h = elim (both (is-allocated (h .map) s) (not (member s ms))) [ true ↦ free-slot s h | false ↦ h ]
 
 pub record Step (n room : ℕ) (ms : List ℕ) (a : ℕ) (h : Heap) (m : List ℕ) (h′ : Heap) : Type 0 where
   pub map : List ℕ
@@ -125,15 +84,17 @@ pub record Step (n room : ℕ) (ms : List ℕ) (a : ℕ) (h : Heap) (m : List �
 
 module _ (n room : ℕ) (ms : List ℕ) (a : ℕ) (h : Heap) (m : List ℕ) (w : Between n room ms a h m) (l : a < capacity h) where
   m-in : a / 4 < length m
-  m-in = omega (arith, in-map n h (w .listed) a l, w .size, w .fits)
+  m-in = omega (arith, in-map n h (w .listed) (w .within) a l, w .size, w .fits)
 
   -- the map after this slot's state was stored, beside a heap's map that agrees
-  module _ (v : ℕ) (small : v < 4) (h′ : Heap) (g : Listed n h′) (size : length (h′ .map) ≡ length (h .map)) (at : state-of (h′ .map) a ≡ v) (off : (s : ℕ) → (s ≡ a → ⊥) → state-of (h′ .map) s ≡ state-of (h .map) s) where
+  module _ (v : ℕ) (small : v < 4) (h′ : Heap) (within : capacity h′ ≤ n) (g : Listed h′) (states : Bytes (h′ .map)) (size : length (h′ .map) ≡ length (h .map)) (at : state-of (h′ .map) a ≡ v) (off : (s : ℕ) → (s ≡ a → ⊥) → state-of (h′ .map) s ≡ state-of (h .map) s) where
     stored-between : Between n room ms (suc a) h′ (set-state m a v)
     stored-between =
         let other : (s : ℕ) → (s ≡ a → ⊥) → state-of (set-state m a v) s ≡ state-of m s = state-other m a v small in
         record {
+          within = within;
           listed = g;
+          states = states;
           size = set-state-length m a v ∙ w .size;
           fits = omega (arith, w .fits);
           bytes = stay-bytes m a v small (w .bytes);
@@ -155,7 +116,7 @@ module _ (n room : ℕ) (ms : List ℕ) (a : ℕ) (h : Heap) (m : List ℕ) (w :
         map = set-state m a Allocated;
         lists = slot-used (swept (words-of n h) m) a (w .marked a (omega arith) e);
         between =
-            stored-between Allocated (omega arith) h (w .listed) refl (w .in-use a (omega arith) e) (λ s d. refl);
+            stored-between Allocated (omega arith) h (w .within) (w .listed) (w .states) refl (w .in-use a (omega arith) e) (λ s d. refl);
       }
 
   -- not marked, and in use: freed
@@ -166,10 +127,15 @@ module _ (n room : ℕ) (ms : List ℕ) (a : ℕ) (h : Heap) (m : List ℕ) (w :
         map = set-state m a Free;
         lists =
             slot-allocated (swept (words-of n h) m) a (w .others a (omega arith) e ∙ one)
-            ∙ ap (λ (ws : List ℕ). swept ws (set-state m a Free)) (freed-words n h (w .listed) a l one);
+            ∙ ap (λ (ws : List ℕ). swept ws (set-state m a Free)) (freed-words n h (w .listed) (w .within) a l one);
         between =
-            stored-between Free (omega arith) (free-slot a h) (freed-listed n h (w .listed) a l one) (set-state-length (h .map) a Free)
-            (here n h (w .listed) a l one) (state-other (h .map) a Free (omega arith));
+            stored-between Free (omega arith) (free-slot a h)
+            (omega (arith, length-set (h .cells) a (plain undefined), w .within))
+            (freed-listed h (w .listed) a one)
+            (stay-bytes (h .map) a Free (omega arith) (w .states))
+            (set-state-length (h .map) a Free)
+            (freed-here h (w .listed) a one)
+            (state-other (h .map) a Free (omega arith));
       }
 
   -- not marked, and Free already
@@ -182,7 +148,9 @@ module _ (n room : ℕ) (ms : List ℕ) (a : ℕ) (h : Heap) (m : List ℕ) (w :
             slot-free (swept (words-of n h) m) a (λ u. omega (arith, w .listed .once a l)) (λ u. none (sym same ∙ u));
         between =
             record {
+              within = w .within;
               listed = w .listed;
+              states = w .states;
               size = w .size;
               fits = w .fits;
               bytes = w .bytes;
@@ -197,7 +165,7 @@ module _ (n room : ℕ) (ms : List ℕ) (a : ℕ) (h : Heap) (m : List ℕ) (w :
             };
       }
 
-  step : Step n room ms a h m (one ms a h)
+  step : Step n room ms a h m (turn ms a h)
   unfolding map-rules
   step = by (member a ms) refl
     where
@@ -214,28 +182,6 @@ module _ (n room : ℕ) (ms : List ℕ) (a : ℕ) (h : Heap) (m : List ℕ) (w :
                 subst (λ (b : Bool). Step n room ms a h m (elim b [ true ↦ free-slot a h | false ↦ h ]))
                 (sym (ap (λ (x : Bool). both x true) (ne-eqb (state-of (h .map) a) Allocated q))) (free-step e q)
           ]
-
--- the capacity and the table stay
-one-capacity : (ms : List ℕ) (s : ℕ) (h : Heap) → capacity (one ms s h) ≡ capacity h
-unfolding free-slot
-one-capacity ms s h = by (both (is-allocated (h .map) s) (not (member s ms)))
-  where
-    by : (b : Bool) → capacity (elim b as (λ x. Heap) [ true ↦ free-slot s h | false ↦ h ]) ≡ capacity h
-    by true = length-set (h .cells) s (plain undefined)
-    by false = refl
-
-one-table : (ms : List ℕ) (s : ℕ) (h : Heap) → one ms s h .table ≡ h .table
-unfolding free-slot
-one-table ms s h = by (both (is-allocated (h .map) s) (not (member s ms)))
-  where
-    by : (b : Bool) → (elim b as (λ x. Heap) [ true ↦ free-slot s h | false ↦ h ]) .table ≡ h .table
-    by true = refl
-    by false = refl
-
-pub sweep-table : (ms ss : List ℕ) (h : Heap) → sweep ms ss h .table ≡ h .table
-unfolding sweep
-sweep-table ms [] h = refl
-sweep-table ms (s ∷ ss) h = sweep-table ms ss (one ms s h) ∙ one-table ms s h
 
 -- ---- all slots
 
@@ -256,7 +202,7 @@ module _ (n room : ℕ) (ms : List ℕ) where
   map-done : (h : Heap) (m : List ℕ) → Between n room ms (capacity h) h m → m ≡ filled room (h .map)
   unfolding filled
   map-done h m w =
-      same-states m (filled room (h .map)) (w .bytes) (zeros-bytes room (h .map) (w .listed .bytes))
+      same-states m (filled room (h .map)) (w .bytes) (zeros-bytes room (h .map) (w .states))
       (w .size ∙ sym (filled-length room (h .map) (w .fits)))
       (λ s.
       elim (decLt s (capacity h)) [
@@ -272,7 +218,7 @@ module _ (n room : ℕ) (ms : List ℕ) where
   slots-swept (suc k) a h m e w =
       let t = step n room ms a h m w (omega arith) in
       ap (sweep-slots (rising (suc a) k)) (t .lists)
-      ∙ slots-swept k (suc a) (one ms a h) (t .map) (omega (arith, one-capacity ms a h)) (t .between)
+      ∙ slots-swept k (suc a) (turn ms a h) (t .map) (omega (arith, turn-sweeps ms a h .size)) (t .between)
 
 -- ---- what marking leaves
 
@@ -350,7 +296,7 @@ module _ (n room : ℕ) (ms : List ℕ) (h : Heap) (m : List ℕ) (w : Between n
       let cap = capacity-word n h in
       record {
         header = omega (arith, words-length n h);
-        rows = omega (arith, words-length n h, w .listed .within);
+        rows = omega (arith, words-length n h, w .within);
         states = omega (arith, w .listed .states, w .size, w .fits);
         list =
             omega (
@@ -379,7 +325,7 @@ module _ (n room : ℕ) (ms : List ℕ) (h : Heap) (m : List ℕ) (w : Between n
         let after = sweep ms (rising 0 (capacity h)) h in
         ap (λ (l : Swept). swept (dropped (l .words) (l .map)) (l .map)) swept-is
         ∙ ap (λ (ws : List ℕ). swept ws (filled room (after .map)))
-        (dropped-is n room after (omega (arith, ap length (sweep-table ms (rising 0 (capacity h)) h))))
+        (dropped-is n room after (omega (arith, ap length (sweeps ms (rising 0 (capacity h)) h .table))))
 
 -- a good heap with slots in use marked in its lent map
 pub marked-between : (n room : ℕ) (ms : List ℕ) (h : Heap) → Good h → capacity h ≤ n → length (h .map) ≤ room → Bytes (h .map) → ((s : ℕ) → member s ms ≡ true → state-of (h .map) s ≡ Allocated) → Between n room ms 0 h (set-states (filled room (h .map)) ms Used)
@@ -387,9 +333,9 @@ unfolding filled
 marked-between n room ms h g within fits bytes used =
     let behind : (s : ℕ) → state-of (filled room (h .map)) s ≡ state-of (h .map) s = state-behind (h .map) (room - length (h .map)) in
     record {
-      listed =
-          record
-          { within = within; states = omega (arith, g .map-size, capacity-fours h g); once = g .once; past = g .past; bytes = bytes };
+      within = within;
+      listed = good-listed h g;
+      states = bytes;
       size = states-length Used (omega arith) ms (filled room (h .map)) ∙ filled-length room (h .map) fits;
       fits = fits;
       bytes = states-bytes Used (omega arith) ms (filled room (h .map)) (zeros-bytes room (h .map) bytes);

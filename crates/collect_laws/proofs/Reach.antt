@@ -8,15 +8,15 @@ use mathlib.Core.Logic.{_⊎_, inl, inr, ⊎-elim}
 use Prim.Native.Nat.{ℕ, zero, suc, _+_, _≤_, _<_}
 use native.Mathlib.Omega.{arith}
 use native.Mathlib.Decide.{ℕ-discrete}
-use borrow.Author.Tests.{eqb-true, eq-eqb, lt-ltb, ltb-true}
+use borrow.Author.Tests.{eqb-true, eq-eqb, lt-ltb}
 use lib.Dec.{eqb, ltb}
 use lib.ListN.{length}
 use Rattle.laws.specs.Basics.{choose, either, every, join, member, count, basics}
-use Rattle.laws.proofs.Tests.{true≢false, both-true, either-cases, either-left, either-right}
+use Rattle.laws.proofs.Tests.{true≢false, both-left, both-right, both-true, either-cases, either-left, either-right}
 use Rattle.laws.proofs.Members.{member-append}
 use Rattle.laws.proofs.Pointwise.{count-here, count-other}
 use Rattle.rules.specs.Heap.{Heap, capacity, cell-at}
-use Rattle.rules.specs.Collect.{leads-to, Reached, root, next, mark-all, mark-round, mark-rounds, marked, collect-rules}
+use Rattle.rules.specs.Collect.{leads-to, Reached, root, next, mark-all, mark-round, mark-rounds, marked}
 use Rattle.rules.proofs.Good.{each-once}
 
 -- ---- members
@@ -50,8 +50,8 @@ pub every-member : (f : ℕ → Bool) (l : List ℕ) → every f l ≡ true → 
 unfolding basics
 every-member f [] e s m = absurd (true≢false (sym m))
 every-member f (x ∷ l) e s m =
-    ⊎-elim (λ p. ap f p ∙ Rattle.laws.proofs.Tests.both-left (f x) _ e)
-    (λ p. every-member f l (Rattle.laws.proofs.Tests.both-right (f x) _ e) s p)
+    ⊎-elim (λ p. ap f p ∙ both-left (f x) _ e)
+    (λ p. every-member f l (both-right (f x) _ e) s p)
     (member-cases s x l m)
 
 pub member-every : (f : ℕ → Bool) (l : List ℕ) → ((s : ℕ) → member s l ≡ true → f s ≡ true) → every f l ≡ true
@@ -270,3 +270,24 @@ module _ (h : Heap) where
       unfolding marked Closed
       reached-marked s (root m) = rounds-kept (capacity h) (mark-all roots []) s (marks-new roots [] s (is-member s roots m))
       reached-marked t (next {s} r m) = marked-closed s t (reached-marked s r) (is-member t (leads s) m)
+
+-- ---- heaps that lead alike are marked alike
+
+join-same : (f g : ℕ → List ℕ) → ((s : ℕ) → f s ≡ g s) → (l : List ℕ) → join f l ≡ join g l
+unfolding basics
+join-same f g e [] = refl
+join-same f g e (x ∷ l) = λ i. e x i ++ join-same f g e l i
+
+module _ (h k : Heap) (same : (s : ℕ) → leads-to h (cell-at h s) ≡ leads-to k (cell-at k s)) where
+  rounds-same : (n : ℕ) (ms : List ℕ) → mark-rounds n h ms ≡ mark-rounds n k ms
+  unfolding mark-rounds mark-round
+  rounds-same zero ms = refl
+  rounds-same (suc n) ms =
+      rounds-same n (mark-round h ms)
+      ∙ ap (λ (l : List ℕ). mark-rounds n k (mark-all l ms))
+      (join-same (λ s. leads-to h (cell-at h s)) (λ s. leads-to k (cell-at k s)) same ms)
+
+  pub marked-alike : capacity h ≡ capacity k → (roots : List ℕ) → marked h roots ≡ marked k roots
+  unfolding marked
+  marked-alike size roots =
+      rounds-same (capacity h) (mark-all roots []) ∙ ap (λ (n : ℕ). mark-rounds n k (mark-all roots [])) size

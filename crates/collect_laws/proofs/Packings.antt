@@ -1,38 +1,34 @@
 -- Packing block by block, of any room: what was moved so far, that it fits, and where each block went. Document 01: "A
 -- collection keeps each block that a surviving slot shows, once, packed by lowest such slot; sharing stays." Assumes nothing.
 use mathlib.Core.Path.{_≡_, refl, sym, ap, _∙_, subst}
-use mathlib.Core.Bool.{Bool, true, false, not, true≢false}
-use mathlib.Core.List.{List, [], _∷_, _++_, append-assoc, append-nil}
+use mathlib.Core.Bool.{Bool, true, false, true≢false}
+use mathlib.Core.List.{List, [], _∷_, _++_, append-nil}
 use mathlib.Core.Option.{Option, none, some}
-use Prim.Native.Nat.{ℕ, zero, suc, _+_, _-_, _≤_, _<_}
+use Prim.Native.Nat.{ℕ, zero, suc, _+_, _≤_, _<_}
 use native.Mathlib.Omega.{arith}
 use native.Mathlib.Nat.{add-zero, add-suc}
-use native.Mathlib.Numerals.{add-one}
-use native.Mathlib.Decide.{ℕ-discrete}
-use borrow.Author.Tests.{eqb-true, eqb-false, eq-eqb, ne-eqb, leb-true, ltb-true, ltb-false, lt-ltb, not-true}
+use borrow.Author.Tests.{eqb-true, eqb-false, eq-eqb, ne-eqb, leb-true, ltb-true, ltb-false, lt-ltb}
 use lib.Dec.{eqb, leb, ltb}
-use lib.ListN.{length, getD, take, drop, set, length-append}
-use lib.Seq.{getD-set-same, getD-set-other}
-use Rattle.laws.specs.Basics.{choose, both, either, every, count, find, join, rising, basics}
-use Rattle.laws.proofs.Tests.{both-left, both-right, both-true, every-front, every-back, every-append, join-append}
+use lib.ListN.{length, length-append}
+use Rattle.laws.specs.Basics.{either, every, count, find, join, rising, basics}
+use Rattle.laws.proofs.Tests.{both-left, both-right, both-true, every-append, join-append}
 use Rattle.laws.proofs.Lists.{count-rising, count-rising-in, length-rising, getD-rising}
 use Rattle.laws.proofs.Pointwise.{count-append, count-rising-past, all-every, length-part}
-use Rattle.rules.specs.Cells.{Block, block, same-block}
+use Rattle.rules.specs.Cells.{Block, same-block}
 use Rattle.rules.specs.Heap.{part-of}
-use Rattle.rules.specs.Collect.{Moved, Packing, place-of, pack-block, moved-block}
+use Rattle.rules.specs.Collect.{Moved, Packing, place-of, pack-block}
 use Rattle.rules.specs.Sound.{sound-rules}
 use Rattle.rules.proofs.Good.{apart, each-once}
-use Rattle.heap_pack.specs.Moves.{new-or}
 
 -- ---- blocks
 
 -- one of the two
-data Apart (a b : Block) : Type 0 where
+pub data Apart (a b : Block) : Type 0 where
   same : a ≡ b → Apart a b
   before : a .place + a .size ≤ b .place → Apart a b
   after : b .place + b .size ≤ a .place → Apart a b
 
-same-blocks : (a b : Block) → same-block a b ≡ true → a ≡ b
+pub same-blocks : (a b : Block) → same-block a b ≡ true → a ≡ b
 same-blocks a b e =
     λ i.
     record {
@@ -40,18 +36,18 @@ same-blocks a b e =
       size = eqb-true (a .size) (b .size) (both-right (eqb (a .place) (b .place)) _ e) i;
     }
 
-blocks-same : (a b : Block) → a ≡ b → same-block a b ≡ true
+pub blocks-same : (a b : Block) → a ≡ b → same-block a b ≡ true
 blocks-same a b e =
     both-true (eq-eqb (a .place) (b .place) (ap (λ (x : Block). x .place) e)) (eq-eqb (a .size) (b .size) (ap (λ (x : Block). x .size) e))
 
-unlike-blocks : (a b : Block) → (a ≡ b → ⊥) → same-block a b ≡ false
+pub unlike-blocks : (a b : Block) → (a ≡ b → ⊥) → same-block a b ≡ false
 unlike-blocks a b n = by (same-block a b) refl
   where
     by : (t : Bool) → same-block a b ≡ t → t ≡ false
     by true r = absurd (n (same-blocks a b r))
     by false r = refl
 
-apart-by : (a b : Block) → 0 < a .size → 0 < b .size → apart a b ≡ true → Apart a b
+pub apart-by : (a b : Block) → 0 < a .size → 0 < b .size → apart a b ≡ true → Apart a b
 unfolding apart sound-rules
 apart-by a b p q e = go (eqb (a .size) 0) (eqb (b .size) 0) (same-block a b) (leb (a .place + a .size) (b .place)) (leb (b .place + b .size) (a .place)) refl refl refl refl refl e
   where
@@ -63,7 +59,7 @@ apart-by a b p q e = go (eqb (a .size) 0) (eqb (b .size) 0) (same-block a b) (le
     go false false false false true e1 e2 e3 e4 e5 t = after (leb-true _ _ e5)
     go false false false false false e1 e2 e3 e4 e5 t = absurd (true≢false (sym t))
 
-positive : (n : ℕ) → eqb n 0 ≡ false → 0 < n
+pub positive : (n : ℕ) → eqb n 0 ≡ false → 0 < n
 positive zero e = absurd (eqb-false 0 0 e refl)
 positive (suc n) e = omega arith
 
@@ -84,15 +80,15 @@ unfolding place-of basics
 look b m ms true e = ap (λ (t : Bool). place-in (elim t as (λ t. Option Moved) [ true ↦ some m | false ↦ first b ms ])) e
 look b m ms false e = ap (λ (t : Bool). place-in (elim t as (λ t. Option Moved) [ true ↦ some m | false ↦ first b ms ])) e
 
-none-some : {A : Type 0} {k : ℕ} → _≡_ {A = Option ℕ} (some k) none → A
+pub none-some : {A : Type 0} {k : ℕ} → _≡_ {A = Option ℕ} (some k) none → A
 none-some e = let w : _≡_ {A = ℕ} 0 1 = cc in absurd (omega arith)
 
-place-none : (b : Block) → place-of b [] ≡ none
+pub place-none : (b : Block) → place-of b [] ≡ none
 unfolding place-of basics
 place-none b = refl
 
 -- a move at the end is found where there is none before it
-place-new : (b : Block) (ms : List Moved) (k : ℕ) → place-of b ms ≡ none → place-of b (ms ++ (move b k ∷ [])) ≡ some k
+pub place-new : (b : Block) (ms : List Moved) (k : ℕ) → place-of b ms ≡ none → place-of b (ms ++ (move b k ∷ [])) ≡ some k
 place-new b [] k e = look b (move b k) [] true (blocks-same b b refl)
 place-new b (m ∷ ms) k e = go (place-new b ms k) (same-block (m .from) b) refl
   where
@@ -101,7 +97,7 @@ place-new b (m ∷ ms) k e = go (place-new b ms k) (same-block (m .from) b) refl
     go again false q = look b m (ms ++ (move b k ∷ [])) false q ∙ again (sym (look b m ms false q) ∙ e)
 
 -- one that was found stays, whatever is moved later
-place-kept : (b : Block) (ms : List Moved) (m' : Moved) (k : ℕ) → place-of b ms ≡ some k → place-of b (ms ++ (m' ∷ [])) ≡ some k
+pub place-kept : (b : Block) (ms : List Moved) (m' : Moved) (k : ℕ) → place-of b ms ≡ some k → place-of b (ms ++ (m' ∷ [])) ≡ some k
 place-kept b [] m' k e = none-some (sym e ∙ place-none b)
 place-kept b (m ∷ ms) m' k e = go (place-kept b ms m' k) (same-block (m .from) b) refl
   where
@@ -110,7 +106,7 @@ place-kept b (m ∷ ms) m' k e = go (place-kept b ms m' k) (same-block (m .from)
     go again false q = look b m (ms ++ (m' ∷ [])) false q ∙ again (sym (look b m ms false q) ∙ e)
 
 -- and of another block nothing changes
-place-other : (b : Block) (ms : List Moved) (m' : Moved) → same-block (m' .from) b ≡ false → place-of b (ms ++ (m' ∷ [])) ≡ place-of b ms
+pub place-other : (b : Block) (ms : List Moved) (m' : Moved) → same-block (m' .from) b ≡ false → place-of b (ms ++ (m' ∷ [])) ≡ place-of b ms
 place-other b [] m' e = look b m' [] false e
 place-other b (m ∷ ms) m' e = go (place-other b ms m' e) (same-block (m .from) b) refl
   where
@@ -202,7 +198,7 @@ module _ {A : Type 0} (old : List A) (shows : ℕ → Block) (apart-all : (s t :
   pub new-moves : (s : ℕ) (p : Packing A) → 0 < shows s .size → place-of (shows s) (p .moved) ≡ none → pack-block old (shows s) p ≡ with-new s p
   new-moves s p h e = case-is s p ∙ (λ i. by-case s p (not-empty s h i) (e i))
 
-  part-size : (s : ℕ) → length (part-of old (shows s)) ≡ shows s .size
+  pub part-size : (s : ℕ) → length (part-of old (shows s)) ≡ shows s .size
   part-size s = length-part old (shows s .place) (shows s .size) (inside s)
 
   spots-new : (s : ℕ) (p : Packing A) → spots (with-new s p .moved) ≡ spots (p .moved) ++ rising (shows s .place) (shows s .size)
@@ -249,17 +245,24 @@ module _ {A : Type 0} (old : List A) (shows : ℕ → Block) (apart-all : (s t :
   unfolding Of-slots basics
   known-none = record { of-slots = tt; sizes = refl; once = λ k. omega arith; below = refl }
 
-  -- each slot's block is moved, was moved, or is empty
-  pub packs : (s : ℕ) → Known (packed s)
-  unfolding packed
-  packs zero = known-none
-  packs (suc s) = by (packs s) (eqb (shows s .size) 0) (place-of (shows s) (packed s .moved)) refl refl
+  -- a slot's turn leaves all as it was, or moves a block that is new and not empty
+  pub turn-by : (P : Packing A → Type 0) (s : ℕ) (p : Packing A) → P p → (0 < shows s .size → place-of (shows s) (p .moved) ≡ none → P (with-new s p)) → P (pack-block old (shows s) p)
+  turn-by P s p stays new = by (eqb (shows s .size) 0) (place-of (shows s) (p .moved)) refl refl
     where
-      by : Known (packed s) → (z : Bool) (o : Option ℕ) → eqb (shows s .size) 0 ≡ z → place-of (shows s) (packed s .moved) ≡ o → Known (pack-block old (shows s) (packed s))
-      by g true o e q = subst Known (sym (empty-stays s (packed s) (eqb-true _ _ e))) g
-      by g false (some k) e q = subst Known (sym (known-stays s (packed s) k (positive (shows s .size) e) q)) g
-      by g false none e q =
-          subst Known (sym (new-moves s (packed s) (positive (shows s .size) e) q)) (known-new s (packed s) g (positive (shows s .size) e) q)
+      by : (z : Bool) (o : Option ℕ) → eqb (shows s .size) 0 ≡ z → place-of (shows s) (p .moved) ≡ o → P (pack-block old (shows s) p)
+      by true o e q = subst P (sym (empty-stays s p (eqb-true _ _ e))) stays
+      by false (some k) e q = subst P (sym (known-stays s p k (positive (shows s .size) e) q)) stays
+      by false none e q =
+          subst P (sym (new-moves s p (positive (shows s .size) e) q)) (new (positive (shows s .size) e) q)
+
+  pub packed-by : (P : Packing A → Type 0) → P (record { room = []; moved = [] }) → ((s : ℕ) (p : Packing A) → P p → 0 < shows s .size → place-of (shows s) (p .moved) ≡ none → P (with-new s p)) → (s : ℕ) → P (packed s)
+  unfolding packed
+  packed-by P start new zero = start
+  packed-by P start new (suc s) =
+      let p = packed-by P start new s in turn-by P s (packed s) p (new s (packed s) p)
+
+  pub packs : (s : ℕ) → Known (packed s)
+  packs = packed-by Known known-none known-new
 
   -- a new block fits behind those that were moved
   pub fits : (s : ℕ) → 0 < shows s .size → place-of (shows s) (packed s .moved) ≡ none → length (packed s .room) + shows s .size ≤ length old
@@ -283,116 +286,23 @@ module _ {A : Type 0} (old : List A) (shows : ℕ → Block) (apart-all : (s t :
   -- once it is known it stays
   stays : (b : Block) (s k : ℕ) → place-of b (packed s .moved) ≡ some k → place-of b (packed (suc s) .moved) ≡ some k
   unfolding packed
-  stays b s k e = by (eqb (shows s .size) 0) (place-of (shows s) (packed s .moved)) refl refl
-    where
-      by : (z : Bool) (o : Option ℕ) → eqb (shows s .size) 0 ≡ z → place-of (shows s) (packed s .moved) ≡ o → place-of b (pack-block old (shows s) (packed s) .moved) ≡ some k
-      by true o f q = ap (λ (p : Packing A). place-of b (p .moved)) (empty-stays s (packed s) (eqb-true _ _ f)) ∙ e
-      by false (some j) f q = ap (λ (p : Packing A). place-of b (p .moved)) (known-stays s (packed s) j (positive (shows s .size) f) q) ∙ e
-      by false none f q =
-          ap (λ (p : Packing A). place-of b (p .moved)) (new-moves s (packed s) (positive (shows s .size) f) q)
-          ∙ place-kept b (packed s .moved) (move (shows s) (length (packed s .room))) k e
+  stays b s k e =
+      turn-by (λ p. place-of b (p .moved) ≡ some k) s (packed s) e
+      (λ h q. place-kept b (packed s .moved) (move (shows s) (length (packed s .room))) k e)
 
   pub stays-to : (b : Block) (s n k : ℕ) → place-of b (packed s .moved) ≡ some k → place-of b (packed (s + n) .moved) ≡ some k
   stays-to b s zero k e = ap (λ (m : ℕ). place-of b (packed m .moved)) (add-zero s) ∙ e
   stays-to b s (suc n) k e =
       ap (λ (m : ℕ). place-of b (packed m .moved)) (add-suc s n) ∙ stays b (s + n) k (stays-to b s n k e)
 
-  -- ---- a table of the places that blocks went to, by the places that they came from; 0 for none
-
-  abbrev pub entry : Option ℕ → ℕ
-  entry o = elim o [ none ↦ 0 | some k ↦ suc k ]
-
-  unfoldable pub Tabled : Packing A → List ℕ → Type 0
-  Tabled p table = (t : ℕ) → 0 < shows t .size → getD table (shows t .place) 0 ≡ entry (place-of (shows t) (p .moved))
-
   -- blocks that begin at one place are one block
-  one-block : (s t : ℕ) → 0 < shows s .size → 0 < shows t .size → shows t .place ≡ shows s .place → shows s ≡ shows t
+  pub one-block : (s t : ℕ) → 0 < shows s .size → 0 < shows t .size → shows t .place ≡ shows s .place → shows s ≡ shows t
   one-block s t p q e = by (apart-by (shows s) (shows t) p q (apart-all s t))
     where
       by : Apart (shows s) (shows t) → shows s ≡ shows t
       by (same r) = r
       by (before r) = absurd (omega arith)
       by (after r) = absurd (omega arith)
-
-  pub tabled-new : (s : ℕ) (p : Packing A) (table : List ℕ) → 0 < shows s .size → shows s .place < length table → place-of (shows s) (p .moved) ≡ none → Tabled p table → Tabled (with-new s p) (set table (shows s .place) (suc (length (p .room))))
-  unfolding Tabled
-  tabled-new s p table h l e g t q = by (ℕ-discrete (shows t .place) (shows s .place))
-    where
-      k : ℕ
-      k = length (p .room)
-
-      by : Dec (shows t .place ≡ shows s .place) → getD (set table (shows s .place) (suc k)) (shows t .place) 0 ≡ entry (place-of (shows t) (with-new s p .moved))
-      by (yes z) =
-          ap (λ (n : ℕ). getD (set table (shows s .place) (suc k)) n 0) z
-          ∙ getD-set-same table (shows s .place) (suc k) 0 l
-          ∙ sym (ap (λ (b : Block). entry (place-of b (with-new s p .moved))) (sym (one-block s t h q z)) ∙ ap entry (place-new (shows s) (p .moved) k e))
-      by (no d) =
-          getD-set-other table (shows s .place) (shows t .place) (suc k) 0 d
-          ∙ g t q
-          ∙ ap entry (sym (place-other (shows t) (p .moved) (move (shows s) k) (unlike-blocks (shows s) (shows t) (λ z. d (sym (ap (λ (b : Block). b .place) z))))))
-
-  -- ---- one slot more
-
-  -- what a turn does to the room in use, the table and the place that it answers
-  pub record Stepped (s at : ℕ) (table : List ℕ) (to end : ℕ) (table′ : List ℕ) : Type 0 where
-    pub room : packed (suc s) .room ≡ new-or table (shows s .place) (packed s .room ++ part-of old (shows s)) (packed s .room)
-    pub long : end ≡ length (packed (suc s) .room)
-    pub listed : Tabled (packed (suc s)) table′
-    pub goes : place-of (shows s) (packed (suc s) .moved) ≡ some to
-
-  entry-new : (table : List ℕ) (place : ℕ) {B : Type 0} (x y : B) → getD table place 0 ≡ 0 → new-or table place x y ≡ x
-  entry-new table place x y e = ap (λ (b : Bool). choose b x y) (eq-eqb (getD table place 0) 0 e)
-
-  entry-known : (table : List ℕ) (place : ℕ) {B : Type 0} (x y : B) (k : ℕ) → getD table place 0 ≡ suc k → new-or table place x y ≡ y
-  entry-known table place x y k e = ap (λ (b : Bool). choose b x y) (ne-eqb (getD table place 0) 0 (λ z. omega (arith, e, z)))
-
-  pub step : (s at : ℕ) (table : List ℕ) (to end : ℕ) (table′ : List ℕ) → at ≡ length (packed s .room) → Tabled (packed s) table → 0 < shows s .size → shows s .place < length table → to ≡ new-or table (shows s .place) at (getD table (shows s .place) 0 - 1) → end ≡ new-or table (shows s .place) (at + shows s .size) at → table′ ≡ new-or table (shows s .place) (set table (shows s .place) (at + 1)) table → Stepped s at table to end table′
-  unfolding packed Tabled
-  step s at table to end table′ long listed h l t n w = by (place-of (shows s) (packed s .moved)) refl
-    where
-      suc-less : (k : ℕ) → suc k - 1 ≡ k
-      suc-less k = omega arith
-
-      by : (o : Option ℕ) → place-of (shows s) (packed s .moved) ≡ o → Stepped s at table to end table′
-      by none e =
-          let z : getD table (shows s .place) 0 ≡ 0 = listed s h ∙ ap entry e in
-          let p = new-moves s (packed s) h e in
-          record {
-            room = ap (λ (x : Packing A). x .room) p ∙ sym (entry-new table (shows s .place) _ _ z);
-            long =
-                n ∙ entry-new table (shows s .place) _ _ z
-                ∙ omega (arith, long, length-append (packed s .room) (part-of old (shows s)), part-size s, ap (λ (x : Packing A). length (x .room)) p);
-            listed =
-                subst (λ (x : Packing A). Tabled x table′) (sym p)
-                (subst (Tabled (with-new s (packed s))) (sym (w ∙ entry-new table (shows s .place) _ _ z ∙ ap (set table (shows s .place)) (add-one at ∙ ap suc long)))
-                (tabled-new s (packed s) table h l e listed));
-            goes = ap (λ (x : Packing A). place-of (shows s) (x .moved)) p ∙ place-new (shows s) (packed s .moved) (length (packed s .room)) e ∙ ap some (sym (t ∙ entry-new table (shows s .place) _ _ z ∙ long));
-          }
-      by (some k) e =
-          let z : getD table (shows s .place) 0 ≡ suc k = listed s h ∙ ap entry e in
-          let p = known-stays s (packed s) k h e in
-          record {
-            room = ap (λ (x : Packing A). x .room) p ∙ sym (entry-known table (shows s .place) _ _ k z);
-            long = n ∙ entry-known table (shows s .place) _ _ k z ∙ long ∙ ap (λ (x : Packing A). length (x .room)) (sym p);
-            listed = subst (λ (x : Packing A). Tabled x table′) (sym p) (subst (Tabled (packed s)) (sym (w ∙ entry-known table (shows s .place) _ _ k z)) listed);
-            goes =
-                ap (λ (x : Packing A). place-of (shows s) (x .moved)) p ∙ e
-                ∙ ap some (sym (t ∙ entry-known table (shows s .place) _ _ k z ∙ ap (λ (m : ℕ). m - 1) z ∙ suc-less k));
-          }
-
-  -- a new block fits: the table has nothing at its place
-  pub table-fits : (s : ℕ) (table : List ℕ) → Tabled (packed s) table → 0 < shows s .size → getD table (shows s .place) 0 ≡ 0 → length (packed s .room) + shows s .size ≤ length old
-  unfolding Tabled
-  table-fits s table listed h z = by (place-of (shows s) (packed s .moved)) refl
-    where
-      by : (o : Option ℕ) → place-of (shows s) (packed s .moved) ≡ o → length (packed s .room) + shows s .size ≤ length old
-      by none e = fits s h e
-      by (some k) e = absurd (omega (arith, z, listed s h, ap entry e))
-
-  -- at first nothing is moved
-  pub tabled-none : (table : List ℕ) → ((k : ℕ) → getD table k 0 ≡ 0) → Tabled (packed 0) table
-  unfolding packed Tabled
-  tabled-none table clear t h = clear (shows t .place) ∙ ap entry (sym (place-none (shows t)))
 
   -- an empty turn changes nothing
   pub packed-empty : (s : ℕ) → shows s .size ≡ 0 → packed (suc s) ≡ packed s
