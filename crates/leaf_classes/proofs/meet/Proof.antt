@@ -1,40 +1,32 @@
+-- `leaf_classes::meet`: a word that is 0 is set. Assumes nothing.
+use Rattle.leaf_classes.proofs.Ways.{met-already, met-first}
 use borrow.Author.Needs.{needs}
 use Rattle.leaf_classes.proofs.meet.Statement.{statement}
 use Rattle.leaf_classes.proofs.meet.Tie as tie
-use Rattle.leaf_classes.proofs.meet.Reads as reads
-use Rattle.leaf_classes.proofs.meet.Lts as lts
 
--- src/lib.rt:33:8
 mul-if1 : tie.Need-mul-if1
 mul-if1 c = search needs
 
--- src/lib.rt:33:8
 slice-read-if1 : tie.Need-slice-read-if1
 slice-read-if1 c = search needs
 
--- src/lib.rt:34:9
 returns : tie.Need-returns
-returns c = ?
+returns c = met-already (c .before .before .args .links .now) (c .before .before .args .s) (c .if1 .taken)
 
--- src/lib.rt:36:16
 add-links : tie.Need-add-links
 add-links c = search needs
 
--- src/lib.rt:36:5
 mul-links : tie.Need-mul-links
 mul-links c = search needs
 
--- src/lib.rt:36:5
 slice-write-links : tie.Need-slice-write-links
 slice-write-links c = search needs
 
--- src/lib.rt:29:1
 same-length : tie.Need-same-length
 same-length c = search needs
 
--- src/lib.rt:29:1
 returns-2 : tie.Need-returns-2
-returns-2 c = ?
+returns-2 c = met-first (c .before .before .args .links .now) (c .before .before .args .s) (c .if1 .left)
 
 pub meet-spec : {M : Type 1} → statement M
 meet-spec =
