@@ -4,7 +4,7 @@ use mathlib.Core.Bool.{Bool, true, false}
 use Prim.Native.Nat.{ℕ, zero, suc}
 use Rattle.laws.specs.Basics.{every, basics}
 use Rattle.rules.specs.Heap.{Heap}
-use Rattle.rules.specs.Equal.{Goal, Step, fails, needs, step, equal-rules}
+use Rattle.rules.specs.Equal.{Goal, fails, needs, step, equal-rules}
 
 -- no chain of at most n steps fails
 unfoldable pub holds : ℕ → Heap → Goal → Bool

@@ -1,0 +1,4 @@
+pub mod Eqv
+pub mod Steps
+pub mod Levels
+pub mod Runs
