@@ -14,7 +14,7 @@ use Rattle.laws.specs.Basics.{choose, both, zeros}
 use Rattle.laws.proofs.Tests.{true≢false, both-left, both-right, both-true}
 use Rattle.laws.proofs.Lists.{getD-zeros}
 use Rattle.equal_laws.specs.Runs.{Widened}
-use Rattle.leaf_classes.specs.Classes.{met, link, root-of, together, Rises, slot-weight, weight, found, meeting, tied, Joined, joined, class-rules}
+use Rattle.leaf_classes.specs.Classes.{met, link, root-of, together, Together, Rises, slot-weight, weight, found, meeting, tied, Joined, joined, class-rules}
 use Rattle.leaf_classes.proofs.Roots.{met-below, root-here, root-up, root-met, root-fixed, regrouped, link-here, met-here, link-other, met-other, set-rises, set-weight, weight-unmet, weight-root, weight-linked}
 use Rattle.leaf_classes.proofs.Finding.{Regrouped, regrouped-then, Right, found-right, regrouped-together}
 
@@ -340,10 +340,6 @@ tied-same l a b e = ap (λ (t : Bool). choose t l (choose (ltb a b) (set l a (b 
 
 -- ---- joining
 
--- the slots of a class list
-abbrev pub Together : List ℕ → ℕ → ℕ → Type 0
-Together l x y = together l x y ≡ true
-
 -- what a join keeps always
 pub record Keeps (l l′ : List ℕ) : Type 0 where
   pub size : length l′ ≡ length l
@@ -573,6 +569,14 @@ module _ (l : List ℕ) (rises : Rises l) (s t : ℕ) (s-inside : s < length l) 
                   (λ p. on x b y (so-far x b (p .0)) (on b t y (back t b tb) (on t s y (back s t st) (on s a y sa (so-far a y (p .1)))))))
                   (k .least x y e);
           }
+
+  pub join-light : weight l ≤ weight (joined l s t .links)
+  join-light =
+      elim (ℕ-discrete a b) [
+        | yes e ↦ subst (λ (k : List ℕ). weight l ≤ weight k) (sym (same-links e)) weight-so-far
+        | no ne ↦
+            subst (λ (k : List ℕ). weight l ≤ weight k) (sym (tied-links ne)) (omega (arith, all-tied ne .weight-more, weight-so-far))
+      ]
 
   pub join-weight : joined l s t .widened ≡ true → weight l + 1 ≤ weight (joined l s t .links)
   join-weight yes-now =

@@ -30,6 +30,9 @@ unfoldable pub together : List ℕ → ℕ → ℕ → Bool
 unfolding met root-of
 together l s t = both (met l s) (both (met l t) (eqb (root-of l s) (root-of l t)))
 
+abbrev pub Together : List ℕ → ℕ → ℕ → Type 0
+Together l s t = together l s t ≡ true
+
 -- links rise, and lead to slots that are met
 pub record Rises (l : List ℕ) : Type 0 where
   pub up : (s : ℕ) → met l s ≡ true → s ≤ link l s

@@ -1,0 +1,4 @@
+pub mod Scratch
+pub mod CellParts
+pub mod SoundLists
+pub mod Moves
