@@ -7,6 +7,7 @@ use Prim.Native.Nat.{ℕ, _<_}
 use native.Mathlib.Omega.{arith}
 use native.Mathlib.Decide.{ℕ-discrete}
 use borrow.Author.Tests.{eqb-true, eqb-false, eq-eqb, ne-eqb}
+use denote.Enum.Declared.{tagOf}
 use lib.Dec.{eqb}
 use lib.ListN.{length}
 use Rattle.laws.specs.Basics.{choose}
@@ -19,12 +20,22 @@ use Rattle.leaf_cells.specs.declared.VCell.{VCell}
 use Rattle.leaf_cells.specs.declared.VCell.the-variants as cell
 use Rattle.heap_equal.specs.declared.Parts.{Parts}
 use Rattle.heap_equal.specs.declared.Parts.the-variants.{Pairs, Vectors, Unlike}
+use Rattle.heap_equal.proofs.Parts.{the-type}
 use Rattle.heap_equal.specs.Parts.{blocks-parted, parted, needed, wanted, part-rules}
 
 differ : {A : Type 0} → _≡_ {A = ℕ} 0 1 → A
 differ e = absurd (omega arith)
 
 -- ---- how the code finds it
+
+-- pairs and vectors are the first two variants of the parts
+pub like-variant : (x : ℕ) → (x ≡ 0) ⊎ (x ≡ 1) → x ≡ 2 → ⊥
+like-variant x o is = ⊎-elim (λ e. omega arith) (λ e. omega arith) o
+
+pub last-variant : (p : Parts) → tagOf the-type p ≡ 2 → p ≡ Unlike
+last-variant (Pairs a d b e) is = absurd (omega (arith, is))
+last-variant (Vectors p q n) is = absurd (omega (arith, is))
+last-variant Unlike is = refl
 
 -- the numbers of the variants of a cell that is no pair; no vector; neither
 pub no-pair : (x : ℕ) → ((x ≡ 0) ⊎ ((x ≡ 1) ⊎ ((x ≡ 2) ⊎ ((x ≡ 3) ⊎ ((x ≡ 4) ⊎ ((x ≡ 5) ⊎ ((x ≡ 6) ⊎ ((x ≡ 8) ⊎ ((x ≡ 9) ⊎ (x ≡ 10)))))))))) → x ≡ 7 → ⊥

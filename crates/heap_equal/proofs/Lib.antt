@@ -2,3 +2,5 @@ pub mod Scratch
 pub mod CellParts
 pub mod SoundLists
 pub mod Moves
+pub mod Pushing
+pub mod Alikes
