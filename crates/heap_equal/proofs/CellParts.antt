@@ -20,7 +20,10 @@ use Rattle.leaf_cells.specs.declared.VCell.{VCell}
 use Rattle.leaf_cells.specs.declared.VCell.the-variants as cell
 use Rattle.heap_equal.specs.declared.Parts.{Parts}
 use Rattle.heap_equal.specs.declared.Parts.the-variants.{Pairs, Vectors, Unlike}
+use Rattle.heap_equal.specs.declared.Next.{Next}
+use Rattle.heap_equal.specs.declared.Next.the-variants as next
 use Rattle.heap_equal.proofs.Parts.{the-type}
+use Rattle.heap_equal.proofs.Next.{the-type as next-type}
 use Rattle.heap_equal.specs.Parts.{blocks-parted, parted, needed, wanted, part-rules}
 
 differ : {A : Type 0} → _≡_ {A = ℕ} 0 1 → A
@@ -36,6 +39,10 @@ pub last-variant : (p : Parts) → tagOf the-type p ≡ 2 → p ≡ Unlike
 last-variant (Pairs a d b e) is = absurd (omega (arith, is))
 last-variant (Vectors p q n) is = absurd (omega (arith, is))
 last-variant Unlike is = refl
+
+pub second-next : (x : Next) → tagOf next-type x ≡ 1 → x ≡ next.Differs
+second-next (next.Height n) is = absurd (omega (arith, is))
+second-next next.Differs is = refl
 
 -- the numbers of the variants of a cell that is no pair; no vector; neither
 pub no-pair : (x : ℕ) → ((x ≡ 0) ⊎ ((x ≡ 1) ⊎ ((x ≡ 2) ⊎ ((x ≡ 3) ⊎ ((x ≡ 4) ⊎ ((x ≡ 5) ⊎ ((x ≡ 6) ⊎ ((x ≡ 8) ⊎ ((x ≡ 9) ⊎ (x ≡ 10)))))))))) → x ≡ 7 → ⊥

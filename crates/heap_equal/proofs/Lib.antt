@@ -4,3 +4,4 @@ pub mod SoundLists
 pub mod Moves
 pub mod Pushing
 pub mod Alikes
+pub mod Faces
