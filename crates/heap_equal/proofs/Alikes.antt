@@ -23,7 +23,7 @@ use Rattle.heap_equal.specs.declared.Next.the-variants as next
 use Rattle.heap_equal.specs.Parts.{parted, wanted, part-rules}
 use Rattle.heap_equal.specs.Boards.{CanPush, PairPushed, Ready, Moved, Refuted, NextTold, UsedSlots}
 use Rattle.heap_equal.proofs.CellParts.{unlike-fails, like-needs}
-use Rattle.heap_equal.proofs.SoundLists.{slot-below, row-inside, cell-loaded, elements-whole}
+use Rattle.heap_equal.proofs.SoundLists.{slot-below, rows-inside, parts-loaded, elements-whole}
 use Rattle.heap_equal.proofs.Moves.{step-fails, needless, pair-pushed}
 
 -- ---- the variants of a value
@@ -88,8 +88,7 @@ module _ (l : Lent) (c : ℕ) (sc : List ℕ) (top : ℕ) (v w : Value) (pre : R
             }
 
         pub both-rows : (8 * s + 16 ≤ length (l .words)) × (8 * t + 16 ≤ length (l .words))
-        both-rows =
-            (row-inside l (pre .0 .lists-sound) s (both-used .first-used), row-inside l (pre .0 .lists-sound) t (both-used .second-used))
+        both-rows = rows-inside l (pre .0 .lists-sound) s t both-used
 
         pub can-push : CanPush c sc top s t
         can-push =
@@ -111,11 +110,7 @@ module _ (l : Lent) (c : ℕ) (sc : List ℕ) (top : ℕ) (v w : Value) (pre : R
 
         module _ (p : Parts) (is : p ≡ parted (loaded (l .words) s) (loaded (l .words) t)) where
           parts-are : p ≡ parted (cell-at h s) (cell-at h t)
-          parts-are =
-              is
-              ∙ (λ i.
-              parted (cell-loaded l (pre .0 .lists-sound) s (both-used .first-used) i)
-              (cell-loaded l (pre .0 .lists-sound) t (both-used .second-used) i))
+          parts-are = is ∙ parts-loaded l (pre .0 .lists-sound) s t both-used
 
           pub parts-differ : p ≡ Unlike → NextTold h c (alike v w ∷ []) sc top sc next.Differs
           parts-differ e =

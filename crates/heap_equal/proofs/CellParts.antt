@@ -35,6 +35,9 @@ differ e = absurd (omega arith)
 pub like-variant : (x : ℕ) → (x ≡ 0) ⊎ (x ≡ 1) → x ≡ 2 → ⊥
 like-variant x o is = ⊎-elim (λ e. omega arith) (λ e. omega arith) o
 
+pub pairs-first : (x : ℕ) → (x ≡ 1) ⊎ (x ≡ 2) → x ≡ 0 → ⊥
+pairs-first x o is = ⊎-elim (λ e. omega arith) (λ e. omega arith) o
+
 pub last-variant : (p : Parts) → tagOf the-type p ≡ 2 → p ≡ Unlike
 last-variant (Pairs a d b e) is = absurd (omega (arith, is))
 last-variant (Vectors p q n) is = absurd (omega (arith, is))

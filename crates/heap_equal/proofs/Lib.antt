@@ -5,3 +5,4 @@ pub mod Moves
 pub mod Pushing
 pub mod Alikes
 pub mod Faces
+pub mod Walking

@@ -27,7 +27,7 @@ use Rattle.leaf_cells.specs.Elements.{loaded-element}
 use Rattle.heap_sound_rows.proofs.HeapFacts as facts
 use Rattle.heap_eqv.specs.Eqv.{holding, Within, shown-in, Comparable}
 use Rattle.heap_eqv.proofs.EqvLaws.{row-there, text-there, shown-is, text-used, cells-alike}
-use Rattle.heap_equal.specs.Parts.{facing}
+use Rattle.heap_equal.specs.Parts.{parted, facing}
 use Rattle.heap_equal.specs.Boards.{Elements, UsedSlots}
 
 module _ (l : Lent) (ok : sound l ≡ true) where
@@ -64,6 +64,12 @@ module _ (l : Lent) (ok : sound l ≡ true) where
 
     text-within : Within (length (h .bytes)) (cell-at h s)
     text-within = text-used l ok (slot s) (as-value s u)
+
+  pub rows-inside : (s t : ℕ) → UsedSlots h s t → (8 * s + 16 ≤ length (l .words)) × (8 * t + 16 ≤ length (l .words))
+  rows-inside s t u = (row-inside s (u .first-used), row-inside t (u .second-used))
+
+  pub parts-loaded : (s t : ℕ) → UsedSlots h s t → parted (loaded (l .words) s) (loaded (l .words) t) ≡ parted (cell-at h s) (cell-at h t)
+  parts-loaded s t u = λ i. parted (cell-loaded s (u .first-used) i) (cell-loaded t (u .second-used) i)
 
   -- what `eqv_cells` tells of the cells of two slots
   pub cells-told : (s t : ℕ) → UsedSlots h s t → (c d : Cell) (r : Bool) → c ≡ loaded (l .words) s → d ≡ loaded (l .words) t → r ≡ eqv-cells (holding (l .bytes)) c d → r ≡ eqv-cells h (cell-at h s) (cell-at h t)

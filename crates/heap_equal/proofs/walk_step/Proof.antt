@@ -1,3 +1,12 @@
+-- `heap_equal::walk_step`: two cells that are not both pairs end the walk; two pairs that were met do so too. Assumes nothing.
+use mathlib.Core.Path.{ap, _∙_}
+use denote.Enum.Declared.{tagOf}
+use Rattle.leaf_cells.specs.Cells.{cell-of}
+use Rattle.heap_sound_rows.specs.Rows.{lists}
+use Rattle.heap_equal.specs.declared.Parts.{Parts}
+use Rattle.heap_equal.proofs.Parts.{the-type}
+use Rattle.heap_equal.proofs.CellParts.{pairs-first, second-next}
+use Rattle.heap_equal.proofs.Walking.{rows-there, can-join, texts-there, walk-over, walk-fails, walk-met, cars-ask, walk-on, walk-stops}
 use borrow.Author.Needs.{needs}
 use Rattle.heap_equal.proofs.walk_step.Statement.{statement}
 use Rattle.heap_equal.proofs.walk_step.Tie as tie
@@ -11,7 +20,7 @@ use Rattle.leaf_cells.proofs.load.Reads as load-reads
 
 -- src/lib.rt:171:9
 parts-of-requires : tie.Need-parts-of-requires
-parts-of-requires c κs = ?
+parts-of-requires c κs = rows-there (lists (c .before .before .before .before .before .args .words .now) (c .before .before .before .before .before .args .map .now) (c .before .before .before .before .before .args .bytes .now) (c .before .before .before .before .before .args .elems .now)) (c .before .before .before .before .before .args .c) (c .before .before .before .before .before .args .scratch .now) (c .before .before .before .before .before .args .top) (c .before .before .before .before .before .args .s) (c .before .before .before .before .before .args .t) (c .before .before .before .before .before .pre)
 
 -- src/lib.rt:172:22
 enum-known-parts : tie.Need-enum-known-parts
@@ -19,27 +28,27 @@ enum-known-parts c = search needs
 
 -- src/lib.rt:173:13
 load-requires : tie.Need-load-requires
-load-requires c κs = ?
+load-requires c κs = rows-there (lists (c .before .before .before .before .before .before .before .args .words .now) (c .before .before .before .before .before .before .before .args .map .now) (c .before .before .before .before .before .before .before .args .bytes .now) (c .before .before .before .before .before .before .before .args .elems .now)) (c .before .before .before .before .before .before .before .args .c) (c .before .before .before .before .before .before .before .args .scratch .now) (c .before .before .before .before .before .before .before .args .top) (c .before .before .before .before .before .before .before .args .s) (c .before .before .before .before .before .before .before .args .t) (c .before .before .before .before .before .before .before .pre) .0
 
 -- src/lib.rt:174:13
 load-requires-2 : tie.Need-load-requires-2
-load-requires-2 c κs = ?
+load-requires-2 c κs = rows-there (lists (c .before .before .before .before .before .before .before .before .args .words .now) (c .before .before .before .before .before .before .before .before .args .map .now) (c .before .before .before .before .before .before .before .before .args .bytes .now) (c .before .before .before .before .before .before .before .before .args .elems .now)) (c .before .before .before .before .before .before .before .before .args .c) (c .before .before .before .before .before .before .before .before .args .scratch .now) (c .before .before .before .before .before .before .before .before .args .top) (c .before .before .before .before .before .before .before .before .args .s) (c .before .before .before .before .before .before .before .before .args .t) (c .before .before .before .before .before .before .before .before .pre) .1
 
 -- src/lib.rt:175:12
 eqv-cells-requires : tie.Need-eqv-cells-requires
-eqv-cells-requires c κs = ?
+eqv-cells-requires c κs = texts-there (lists (c .before .before .before .before .before .before .before .before .before .args .words .now) (c .before .before .before .before .before .before .before .before .before .args .map .now) (c .before .before .before .before .before .before .before .before .before .args .bytes .now) (c .before .before .before .before .before .before .before .before .before .args .elems .now)) (c .before .before .before .before .before .before .before .before .before .args .c) (c .before .before .before .before .before .before .before .before .before .args .scratch .now) (c .before .before .before .before .before .before .before .before .before .args .top) (c .before .before .before .before .before .before .before .before .before .args .s) (c .before .before .before .before .before .before .before .before .before .args .t) (c .before .before .before .before .before .before .before .before .before .pre) (cell-of (c .before .load .result)) (cell-of (c .load2 .result)) (c .before .load .ensures) (c .load2 .ensures)
 
 -- src/lib.rt:176:13
 returns : tie.Need-returns
-returns c = ?
+returns c = walk-over (lists (c .before .before .before .before .before .before .before .before .before .before .before .args .words .now) (c .before .before .before .before .before .before .before .before .before .before .before .args .map .now) (c .before .before .before .before .before .before .before .before .before .before .before .args .bytes .now) (c .before .before .before .before .before .before .before .before .before .before .before .args .elems .now)) (c .before .before .before .before .before .before .before .before .before .before .before .args .c) (c .before .before .before .before .before .before .before .before .before .before .before .args .scratch .now) (c .before .before .before .before .before .before .before .before .before .before .before .args .top) (c .before .before .before .before .before .before .before .before .before .before .before .args .s) (c .before .before .before .before .before .before .before .before .before .before .before .args .t) (c .before .before .before .before .before .before .before .before .before .before .before .pre) (c .before .before .before .before .before .parts-of .result) (c .before .before .before .before .before .parts-of .ensures) (λ a d b e q. pairs-first _ (c .before .before .before .before .match .keys2) (ap (λ (x : Parts). tagOf the-type x) q)) (cell-of (c .before .before .before .load .result)) (cell-of (c .before .before .load2 .result)) (c .before .eqv-cells .result) (c .before .before .before .load .ensures) (c .before .before .load2 .ensures) (c .before .eqv-cells .ensures) (c .if1 .taken)
 
 -- src/lib.rt:178:9
 returns-2 : tie.Need-returns-2
-returns-2 c = ?
+returns-2 c = walk-fails (lists (c .before .before .before .before .before .before .before .before .before .before .before .args .words .now) (c .before .before .before .before .before .before .before .before .before .before .before .args .map .now) (c .before .before .before .before .before .before .before .before .before .before .before .args .bytes .now) (c .before .before .before .before .before .before .before .before .before .before .before .args .elems .now)) (c .before .before .before .before .before .before .before .before .before .before .before .args .c) (c .before .before .before .before .before .before .before .before .before .before .before .args .scratch .now) (c .before .before .before .before .before .before .before .before .before .before .before .args .top) (c .before .before .before .before .before .before .before .before .before .before .before .args .s) (c .before .before .before .before .before .before .before .before .before .before .before .args .t) (c .before .before .before .before .before .before .before .before .before .before .before .pre) (c .before .before .before .before .before .parts-of .result) (c .before .before .before .before .before .parts-of .ensures) (λ a d b e q. pairs-first _ (c .before .before .before .before .match .keys2) (ap (λ (x : Parts). tagOf the-type x) q)) (cell-of (c .before .before .before .load .result)) (cell-of (c .before .before .load2 .result)) (c .before .eqv-cells .result) (c .before .before .before .load .ensures) (c .before .before .load2 .ensures) (c .before .eqv-cells .ensures) (c .if1 .left)
 
 -- src/lib.rt:180:9
 join-walks-requires : tie.Need-join-walks-requires
-join-walks-requires c κs = ?
+join-walks-requires c κs = can-join (lists (c .before .before .before .before .before .before .before .before .before .before .args .words .now) (c .before .before .before .before .before .before .before .before .before .before .args .map .now) (c .before .before .before .before .before .before .before .before .before .before .args .bytes .now) (c .before .before .before .before .before .before .before .before .before .before .args .elems .now)) (c .before .before .before .before .before .before .before .before .before .before .args .c) (c .before .before .before .before .before .before .before .before .before .before .args .scratch .now) (c .before .before .before .before .before .before .before .before .before .before .args .top) (c .before .before .before .before .before .before .before .before .before .before .args .s) (c .before .before .before .before .before .before .before .before .before .before .args .t) (c .before .before .before .before .before .before .before .before .before .before .pre)
 
 -- src/lib.rt:181:9
 same-length : tie.Need-same-length
@@ -47,11 +56,11 @@ same-length c = search needs
 
 -- src/lib.rt:181:9
 returns-3 : tie.Need-returns-3
-returns-3 c = ?
+returns-3 c = walk-met (lists (c .before .before .before .before .before .before .before .before .before .before .before .before .before .before .args .words .now) (c .before .before .before .before .before .before .before .before .before .before .before .before .before .before .args .map .now) (c .before .before .before .before .before .before .before .before .before .before .before .before .before .before .args .bytes .now) (c .before .before .before .before .before .before .before .before .before .before .before .before .before .before .args .elems .now)) (c .before .before .before .before .before .before .before .before .before .before .before .before .before .before .args .c) (c .before .before .before .before .before .before .before .before .before .before .before .before .before .before .args .scratch .now) (c .before .before .before .before .before .before .before .before .before .before .before .before .before .before .args .top) (c .before .before .before .before .before .before .before .before .before .before .before .before .before .before .args .s) (c .before .before .before .before .before .before .before .before .before .before .before .before .before .before .args .t) (c .before .before .before .before .before .before .before .before .before .before .before .before .before .before .pre) (c .before .before .before .before .before .before .before .before .parts-of .result) (c .before .before .before .before .before .before .before .before .parts-of .ensures) (c .before .before .before .before .before .before .parts .given .0 .0) (c .before .before .before .before .before .before .parts .given .0 .1 .0) (c .before .before .before .before .before .before .parts .given .0 .1 .1 .0) (c .before .before .before .before .before .before .parts .given .0 .1 .1 .1 .0) (c .before .before .before .before .before .before .parts .given .1) (c .before .before .before .join-walks .result) (c .before .before .before .join-walks .last .0) (c .before .before .before .join-walks .ensures) (c .if2 .taken)
 
 -- src/lib.rt:183:9
 push-alike-requires : tie.Need-push-alike-requires
-push-alike-requires c κs = ?
+push-alike-requires c κs = cars-ask (lists (c .before .before .before .before .before .before .before .before .before .before .before .before .before .before .before .args .words .now) (c .before .before .before .before .before .before .before .before .before .before .before .before .before .before .before .args .map .now) (c .before .before .before .before .before .before .before .before .before .before .before .before .before .before .before .args .bytes .now) (c .before .before .before .before .before .before .before .before .before .before .before .before .before .before .before .args .elems .now)) (c .before .before .before .before .before .before .before .before .before .before .before .before .before .before .before .args .c) (c .before .before .before .before .before .before .before .before .before .before .before .before .before .before .before .args .scratch .now) (c .before .before .before .before .before .before .before .before .before .before .before .before .before .before .before .args .top) (c .before .before .before .before .before .before .before .before .before .before .before .before .before .before .before .args .s) (c .before .before .before .before .before .before .before .before .before .before .before .before .before .before .before .args .t) (c .before .before .before .before .before .before .before .before .before .before .before .before .before .before .before .pre) (c .before .before .before .before .before .before .before .before .before .parts-of .result) (c .before .before .before .before .before .before .before .before .before .parts-of .ensures) (c .before .before .before .before .before .before .before .parts .given .0 .0) (c .before .before .before .before .before .before .before .parts .given .0 .1 .0) (c .before .before .before .before .before .before .before .parts .given .0 .1 .1 .0) (c .before .before .before .before .before .before .before .parts .given .0 .1 .1 .1 .0) (c .before .before .before .before .before .before .before .parts .given .1) (c .before .before .before .before .join-walks .result) (c .before .before .before .before .join-walks .last .0) (c .before .before .before .before .join-walks .ensures) (c .before .if2 .left)
 
 -- src/lib.rt:195:22
 enum-known-next : tie.Need-enum-known-next
@@ -67,7 +76,7 @@ same-length-2 c = search needs
 
 -- src/lib.rt:156:1
 returns-4 : tie.Need-returns-4
-returns-4 c = ?
+returns-4 c = walk-on (lists (c .before .before .before .before .before .before .before .before .before .before .before .before .before .before .before .before .before .before .before .before .before .args .words .now) (c .before .before .before .before .before .before .before .before .before .before .before .before .before .before .before .before .before .before .before .before .before .args .map .now) (c .before .before .before .before .before .before .before .before .before .before .before .before .before .before .before .before .before .before .before .before .before .args .bytes .now) (c .before .before .before .before .before .before .before .before .before .before .before .before .before .before .before .before .before .before .before .before .before .args .elems .now)) (c .before .before .before .before .before .before .before .before .before .before .before .before .before .before .before .before .before .before .before .before .before .args .c) (c .before .before .before .before .before .before .before .before .before .before .before .before .before .before .before .before .before .before .before .before .before .args .scratch .now) (c .before .before .before .before .before .before .before .before .before .before .before .before .before .before .before .before .before .before .before .before .before .args .top) (c .before .before .before .before .before .before .before .before .before .before .before .before .before .before .before .before .before .before .before .before .before .args .s) (c .before .before .before .before .before .before .before .before .before .before .before .before .before .before .before .before .before .before .before .before .before .args .t) (c .before .before .before .before .before .before .before .before .before .before .before .before .before .before .before .before .before .before .before .before .before .pre) (c .before .before .before .before .before .before .before .before .before .before .before .before .before .before .before .parts-of .result) (c .before .before .before .before .before .before .before .before .before .before .before .before .before .before .before .parts-of .ensures) (c .before .before .before .before .before .before .before .before .before .before .before .before .before .parts .given .0 .0) (c .before .before .before .before .before .before .before .before .before .before .before .before .before .parts .given .0 .1 .0) (c .before .before .before .before .before .before .before .before .before .before .before .before .before .parts .given .0 .1 .1 .0) (c .before .before .before .before .before .before .before .before .before .before .before .before .before .parts .given .0 .1 .1 .1 .0) (c .before .before .before .before .before .before .before .before .before .before .before .before .before .parts .given .1) (c .before .before .before .before .before .before .before .before .before .before .join-walks .result) (c .before .before .before .before .before .before .before .before .before .before .join-walks .last .0) (c .before .before .before .before .before .before .before .before .before .before .join-walks .ensures) (c .before .before .before .before .before .before .before .if2 .left) (c .before .before .before .before .before .push-alike .last .1 .1 .1 .1 .0) (c .before .before .before .before .before .push-alike .result) (c .before .before .before .before .before .push-alike .ensures) (c .before .next .given .0 .0) (c .before .next .given .1)
 
 -- src/lib.rt:156:1
 same-length-3 : tie.Need-same-length-3
@@ -75,7 +84,7 @@ same-length-3 c = search needs
 
 -- src/lib.rt:156:1
 returns-5 : tie.Need-returns-5
-returns-5 c = ?
+returns-5 c = walk-stops (lists (c .before .before .before .before .before .before .before .before .before .before .before .before .before .before .before .before .before .before .before .before .args .words .now) (c .before .before .before .before .before .before .before .before .before .before .before .before .before .before .before .before .before .before .before .before .args .map .now) (c .before .before .before .before .before .before .before .before .before .before .before .before .before .before .before .before .before .before .before .before .args .bytes .now) (c .before .before .before .before .before .before .before .before .before .before .before .before .before .before .before .before .before .before .before .before .args .elems .now)) (c .before .before .before .before .before .before .before .before .before .before .before .before .before .before .before .before .before .before .before .before .args .c) (c .before .before .before .before .before .before .before .before .before .before .before .before .before .before .before .before .before .before .before .before .args .scratch .now) (c .before .before .before .before .before .before .before .before .before .before .before .before .before .before .before .before .before .before .before .before .args .top) (c .before .before .before .before .before .before .before .before .before .before .before .before .before .before .before .before .before .before .before .before .args .s) (c .before .before .before .before .before .before .before .before .before .before .before .before .before .before .before .before .before .before .before .before .args .t) (c .before .before .before .before .before .before .before .before .before .before .before .before .before .before .before .before .before .before .before .before .pre) (c .before .before .before .before .before .before .before .before .before .before .before .before .before .before .parts-of .result) (c .before .before .before .before .before .before .before .before .before .before .before .before .before .before .parts-of .ensures) (c .before .before .before .before .before .before .before .before .before .before .before .before .parts .given .0 .0) (c .before .before .before .before .before .before .before .before .before .before .before .before .parts .given .0 .1 .0) (c .before .before .before .before .before .before .before .before .before .before .before .before .parts .given .0 .1 .1 .0) (c .before .before .before .before .before .before .before .before .before .before .before .before .parts .given .0 .1 .1 .1 .0) (c .before .before .before .before .before .before .before .before .before .before .before .before .parts .given .1) (c .before .before .before .before .before .before .before .before .before .join-walks .result) (c .before .before .before .before .before .before .before .before .before .join-walks .last .0) (c .before .before .before .before .before .before .before .before .before .join-walks .ensures) (c .before .before .before .before .before .before .if2 .left) (c .before .before .before .before .push-alike .last .1 .1 .1 .1 .0) (c .before .before .before .before .push-alike .result) (c .before .before .before .before .push-alike .ensures) (second-next _ (c .before .match2 .keys2))
 
 pub walk-step-spec : {M : Type 1} → statement M
 walk-step-spec =
