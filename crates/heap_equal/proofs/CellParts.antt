@@ -22,7 +22,10 @@ use Rattle.heap_equal.specs.declared.Parts.{Parts}
 use Rattle.heap_equal.specs.declared.Parts.the-variants.{Pairs, Vectors, Unlike}
 use Rattle.heap_equal.specs.declared.Next.{Next}
 use Rattle.heap_equal.specs.declared.Next.the-variants as next
+use Rattle.heap_equal.specs.declared.Walked.{Walked}
+use Rattle.heap_equal.specs.declared.Walked.the-variants as walked
 use Rattle.heap_equal.proofs.Parts.{the-type}
+use Rattle.heap_equal.proofs.Walked.{the-type as walked-type}
 use Rattle.heap_equal.proofs.Next.{the-type as next-type}
 use Rattle.heap_equal.specs.Parts.{blocks-parted, parted, needed, wanted, part-rules}
 
@@ -46,6 +49,16 @@ last-variant Unlike is = refl
 pub second-next : (x : Next) → tagOf next-type x ≡ 1 → x ≡ next.Differs
 second-next (next.Height n) is = absurd (omega (arith, is))
 second-next next.Differs is = refl
+
+pub second-walked : (x : Walked) → tagOf walked-type x ≡ 1 → x ≡ walked.Ends
+second-walked (walked.On n d e) is = absurd (omega (arith, is))
+second-walked walked.Ends is = refl
+second-walked walked.Differs is = absurd (omega (arith, is))
+
+pub third-walked : (x : Walked) → tagOf walked-type x ≡ 2 → x ≡ walked.Differs
+third-walked (walked.On n d e) is = absurd (omega (arith, is))
+third-walked walked.Ends is = absurd (omega (arith, is))
+third-walked walked.Differs is = refl
 
 -- the numbers of the variants of a cell that is no pair; no vector; neither
 pub no-pair : (x : ℕ) → ((x ≡ 0) ⊎ ((x ≡ 1) ⊎ ((x ≡ 2) ⊎ ((x ≡ 3) ⊎ ((x ≡ 4) ⊎ ((x ≡ 5) ⊎ ((x ≡ 6) ⊎ ((x ≡ 8) ⊎ ((x ≡ 9) ⊎ (x ≡ 10)))))))))) → x ≡ 7 → ⊥

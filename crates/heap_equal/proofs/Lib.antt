@@ -6,3 +6,4 @@ pub mod Pushing
 pub mod Alikes
 pub mod Faces
 pub mod Walking
+pub mod Comparing
