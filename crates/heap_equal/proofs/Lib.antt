@@ -7,3 +7,4 @@ pub mod Alikes
 pub mod Faces
 pub mod Walking
 pub mod Comparing
+pub mod Deciding

@@ -1,30 +1,25 @@
+-- `heap_equal::equal`: the scratch is cleared before and after. Assumes nothing.
+use Rattle.leaf_cells.specs.Elements.{value-of}
+use Rattle.heap_sound_rows.specs.Rows.{lists}
+use Rattle.heap_equal.proofs.Deciding.{decide-asks, answered}
 use borrow.Author.Needs.{needs}
 use Rattle.heap_equal.proofs.equal.Statement.{statement}
 use Rattle.heap_equal.proofs.equal.Tie as tie
-use Rattle.heap_equal.proofs.equal.Reads as reads
-use Rattle.heap_equal.proofs.equal.Lts as lts
-use Rattle.heap_equal.proofs.decide.Reads as decide-reads
-use Rattle.leaf_clear.proofs.clear_words.Reads as clear-words-reads
 
--- src/lib.rt:290:5
 clear-words-requires : tie.Need-clear-words-requires
 clear-words-requires c κs = search needs
 
--- src/lib.rt:291:9
 decide-requires : tie.Need-decide-requires
-decide-requires c κs = ?
+decide-requires c κs = decide-asks (lists (c .before .before .before .before .before .before .before .before .before .before .args .words .now) (c .before .before .before .before .before .before .before .before .before .before .args .map .now) (c .before .before .before .before .before .before .before .before .before .before .args .bytes .now) (c .before .before .before .before .before .before .before .before .before .before .args .elems .now)) (c .before .before .before .before .before .before .before .before .before .before .args .scratch .now) (value-of (c .before .before .before .before .before .before .before .before .before .before .args .v)) (value-of (c .before .before .before .before .before .before .before .before .before .before .args .w)) (c .before .before .before .before .before .before .before .before .before .before .pre) (c .before .before .before .clear-words .last .0) (c .before .before .before .clear-words .ensures)
 
--- src/lib.rt:292:5
 clear-words-requires-2 : tie.Need-clear-words-requires-2
 clear-words-requires-2 c κs = search needs
 
--- src/lib.rt:277:1
 same-length : tie.Need-same-length
 same-length c = search needs
 
--- src/lib.rt:277:1
 returns : tie.Need-returns
-returns c = ?
+returns c = answered (lists (c .before .before .before .before .before .before .before .before .before .before .before .before .before .before .before .before .before .args .words .now) (c .before .before .before .before .before .before .before .before .before .before .before .before .before .before .before .before .before .args .map .now) (c .before .before .before .before .before .before .before .before .before .before .before .before .before .before .before .before .before .args .bytes .now) (c .before .before .before .before .before .before .before .before .before .before .before .before .before .before .before .before .before .args .elems .now)) (c .before .before .before .before .before .before .before .before .before .before .before .before .before .before .before .before .before .args .scratch .now) (value-of (c .before .before .before .before .before .before .before .before .before .before .before .before .before .before .before .before .before .args .v)) (value-of (c .before .before .before .before .before .before .before .before .before .before .before .before .before .before .before .before .before .args .w)) (c .before .before .before .before .before .before .before .before .before .before .before .before .before .before .before .before .before .pre) (c .before .before .before .before .before .before .before .before .before .before .clear-words .last .0) (c .before .before .before .before .before .before .before .before .before .before .clear-words .ensures) (c .before .before .before .before .before .before .decide .result) (c .before .before .before .before .before .before .decide .ensures) (c .before .before .before .before .before .before .decide .last .1 .1 .1 .1 .0) (c .before .before .clear-words2 .last .0) (c .before .before .before .before .before .before .decide .kept .1 .1 .1 .1 .0) (c .before .before .clear-words2 .ensures)
 
 pub equal-spec : {M : Type 1} → statement M
 equal-spec =

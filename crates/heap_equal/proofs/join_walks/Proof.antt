@@ -3,39 +3,28 @@ use Rattle.heap_equal.proofs.Pushing.{walks-ask, walks-joined}
 use borrow.Author.Needs.{needs}
 use Rattle.heap_equal.proofs.join_walks.Statement.{statement}
 use Rattle.heap_equal.proofs.join_walks.Tie as tie
-use Rattle.heap_equal.proofs.join_walks.Reads as reads
-use Rattle.heap_equal.proofs.join_walks.Lts as lts
-use Rattle.leaf_classes.proofs.join.Reads as join-reads
 
--- src/lib.rt:87:15
 add-end : tie.Need-add-end
 add-end c = search needs
 
--- src/lib.rt:88:24
 mul-join : tie.Need-mul-join
 mul-join c = search needs
 
--- src/lib.rt:88:24
 sub-join : tie.Need-sub-join
 sub-join c = search needs
 
--- src/lib.rt:88:24
 part-join-start : tie.Need-part-join-start
 part-join-start c = search needs
 
--- src/lib.rt:88:24
 part-join-end : tie.Need-part-join-end
 part-join-end c = search needs
 
--- src/lib.rt:88:5
 join-requires : tie.Need-join-requires
 join-requires c κs = walks-ask (c .before .before .args .c) (c .before .before .args .scratch .now) (c .before .before .args .s) (c .before .before .args .t) (c .before .before .pre)
 
--- src/lib.rt:83:1
 same-length : tie.Need-same-length
 same-length c = search needs
 
--- src/lib.rt:83:1
 returns : tie.Need-returns
 returns c = walks-joined (c .before .before .before .before .before .args .c) (c .before .before .before .before .before .args .scratch .now) (c .before .before .before .before .before .args .s) (c .before .before .before .before .before .args .t) (c .before .before .before .before .before .pre) (c .before .before .join .last .0) (c .before .before .join .result) (c .before .before .join .ensures)
 

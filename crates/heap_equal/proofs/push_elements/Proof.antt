@@ -10,10 +10,6 @@ use Rattle.heap_equal.proofs.Faces.{Along, along-begins, along-ends, ne
 use borrow.Author.Needs.{needs}
 use Rattle.heap_equal.proofs.push_elements.Statement.{statement}
 use Rattle.heap_equal.proofs.push_elements.Tie as tie
-use Rattle.heap_equal.proofs.push_elements.Reads as reads
-use Rattle.heap_equal.proofs.push_elements.Lts as lts
-use Rattle.heap_equal.proofs.push_alike.Reads as push-alike-reads
-use Rattle.leaf_cells.proofs.load_element.Reads as load-element-reads
 
 abbrev Inv-loop : tie.InvT-loop
 Inv-loop words map bytes elems scratch₀ c top p q n height₀ j₀ scratch height j = Along (heap-of (lists words map bytes elems)) c elems p q n scratch₀ top scratch height j
@@ -21,63 +17,48 @@ Inv-loop words map bytes elems scratch₀ c top p q n height₀ j₀ scratch hei
 abbrev μ-loop : tie.MeasureT-loop
 μ-loop words map bytes elems scratch₀ c top p q n height₀ j₀ scratch height j = n - j
 
--- src/lib.rt:133:5
 loop-holds : tie.Need-loop-holds Inv-loop μ-loop
 loop-holds c = along-begins (heap-of (lists (c .before .before .before .before .before .args .words .now) (c .before .before .before .before .before .args .map .now) (c .before .before .before .before .before .args .bytes .now) (c .before .before .before .before .before .args .elems .now))) (c .before .before .before .before .before .args .c) (c .before .before .before .before .before .args .elems .now) (c .before .before .before .before .before .args .p) (c .before .before .before .before .before .args .q) (c .before .before .before .before .before .args .n) (c .before .before .before .before .before .args .scratch .now) (c .before .before .before .before .before .args .top) (c .before .before .before .before .before .pre .0 .shape)
 
--- src/lib.rt:134:49
 add-load-element : tie.Need-add-load-element Inv-loop μ-loop
 add-load-element c = omega (arith, c .before .before .before .before .before .before .before .pre .1 .first-inside)
 
--- src/lib.rt:134:13
 load-element-requires : tie.Need-load-element-requires Inv-loop μ-loop
 load-element-requires c κs = omega (arith, c .before .before .before .before .before .before .before .pre .1 .first-inside)
 
--- src/lib.rt:135:49
 add-load-element-2 : tie.Need-add-load-element-2 Inv-loop μ-loop
 add-load-element-2 c = omega (arith, c .before .before .before .before .before .before .before .before .pre .1 .second-inside)
 
--- src/lib.rt:135:13
 load-element-requires-2 : tie.Need-load-element-requires-2 Inv-loop μ-loop
 load-element-requires-2 c κs = omega (arith, c .before .before .before .before .before .before .before .before .pre .1 .second-inside)
 
--- src/lib.rt:136:13
 push-alike-requires : tie.Need-push-alike-requires Inv-loop μ-loop
 push-alike-requires c κs = next-asks (lists (c .before .before .before .before .before .before .before .before .before .before .args .words .now) (c .before .before .before .before .before .before .before .before .before .before .args .map .now) (c .before .before .before .before .before .before .before .before .before .before .args .bytes .now) (c .before .before .before .before .before .before .before .before .before .before .args .elems .now)) (c .before .before .before .before .before .before .before .before .before .before .args .c) (c .before .before .before .before .before .before .before .before .before .before .args .p) (c .before .before .before .before .before .before .before .before .before .before .args .q) (c .before .before .before .before .before .before .before .before .before .before .args .n) (c .before .before .before .before .before .before .before .before .before .before .args .scratch .now) (c .before .before .before .before .before .before .before .before .before .before .args .top) (c .before .before .before .before .before .before .before .before .before .before .pre) (c .before .before .before .before .loop .scratch) (c .before .before .before .before .loop .height) (c .before .before .before .before .loop .j) (c .before .before .before .before .loop .inv) (c .before .before .before .loop-test .taken) (value-of (c .before .before .load-element .result)) (value-of (c .before .load-element2 .result)) (c .before .before .load-element .ensures) (c .before .load-element2 .ensures)
 
--- src/lib.rt:137:26
 enum-known-next : tie.Need-enum-known-next Inv-loop μ-loop
 enum-known-next c = search needs
 
--- src/lib.rt:138:13
 enum-told : tie.Need-enum-told Inv-loop μ-loop
 enum-told c = search needs
 
--- src/lib.rt:138:13
 same-length : tie.Need-same-length Inv-loop μ-loop
 same-length c = c .before .before .before .before .push-alike .kept .1 .1 .1 .1 .0 ∙ c .before .before .before .before .before .before .before .before .before .loop .inv .size
 
--- src/lib.rt:138:13
 returns : tie.Need-returns Inv-loop μ-loop
 returns c = along-stops (lists (c .before .before .before .before .before .before .before .before .before .before .before .before .before .before .before .args .words .now) (c .before .before .before .before .before .before .before .before .before .before .before .before .before .before .before .args .map .now) (c .before .before .before .before .before .before .before .before .before .before .before .before .before .before .before .args .bytes .now) (c .before .before .before .before .before .before .before .before .before .before .before .before .before .before .before .args .elems .now)) (c .before .before .before .before .before .before .before .before .before .before .before .before .before .before .before .args .c) (c .before .before .before .before .before .before .before .before .before .before .before .before .before .before .before .args .p) (c .before .before .before .before .before .before .before .before .before .before .before .before .before .before .before .args .q) (c .before .before .before .before .before .before .before .before .before .before .before .before .before .before .before .args .n) (c .before .before .before .before .before .before .before .before .before .before .before .before .before .before .before .args .scratch .now) (c .before .before .before .before .before .before .before .before .before .before .before .before .before .before .before .args .top) (c .before .before .before .before .before .before .before .before .before .before .before .before .before .before .before .pre) (c .before .before .before .before .before .before .before .before .before .loop .scratch) (c .before .before .before .before .before .before .before .before .before .loop .height) (c .before .before .before .before .before .before .before .before .before .loop .j) (c .before .before .before .before .before .before .before .before .before .loop .inv) (c .before .before .before .before .before .before .before .before .loop-test .taken) (value-of (c .before .before .before .before .before .before .before .load-element .result)) (value-of (c .before .before .before .before .before .before .load-element2 .result)) (c .before .before .before .before .before .before .before .load-element .ensures) (c .before .before .before .before .before .before .load-element2 .ensures) (c .before .before .before .before .push-alike .last .1 .1 .1 .1 .0) (c .before .before .before .before .push-alike .result) (c .before .before .before .before .push-alike .ensures) (second-next _ (c .before .match .keys2))
 
--- src/lib.rt:141:9
 add-j : tie.Need-add-j Inv-loop μ-loop
 add-j c = search needs
 
--- src/lib.rt:133:5
 loop-less : tie.Need-loop-less Inv-loop μ-loop
 loop-less c = search needs
 
--- src/lib.rt:133:5
 loop-again : tie.Need-loop-again Inv-loop μ-loop
 loop-again c = along-on (lists (c .before .before .before .before .before .before .before .before .before .before .before .before .before .before .before .before .args .words .now) (c .before .before .before .before .before .before .before .before .before .before .before .before .before .before .before .before .args .map .now) (c .before .before .before .before .before .before .before .before .before .before .before .before .before .before .before .before .args .bytes .now) (c .before .before .before .before .before .before .before .before .before .before .before .before .before .before .before .before .args .elems .now)) (c .before .before .before .before .before .before .before .before .before .before .before .before .before .before .before .before .args .c) (c .before .before .before .before .before .before .before .before .before .before .before .before .before .before .before .before .args .p) (c .before .before .before .before .before .before .before .before .before .before .before .before .before .before .before .before .args .q) (c .before .before .before .before .before .before .before .before .before .before .before .before .before .before .before .before .args .n) (c .before .before .before .before .before .before .before .before .before .before .before .before .before .before .before .before .args .scratch .now) (c .before .before .before .before .before .before .before .before .before .before .before .before .before .before .before .before .args .top) (c .before .before .before .before .before .before .before .before .before .before .before .before .before .before .before .before .pre) (c .before .before .before .before .before .before .before .before .before .before .loop .scratch) (c .before .before .before .before .before .before .before .before .before .before .loop .height) (c .before .before .before .before .before .before .before .before .before .before .loop .j) (c .before .before .before .before .before .before .before .before .before .before .loop .inv) (c .before .before .before .before .before .before .before .before .before .loop-test .taken) (value-of (c .before .before .before .before .before .before .before .before .load-element .result)) (value-of (c .before .before .before .before .before .before .before .load-element2 .result)) (c .before .before .before .before .before .before .before .before .load-element .ensures) (c .before .before .before .before .before .before .before .load-element2 .ensures) (c .before .before .before .before .before .push-alike .last .1 .1 .1 .1 .0) (c .before .before .before .before .before .push-alike .result) (c .before .before .before .before .before .push-alike .ensures) (c .before .next .given .0 .0) (c .before .next .given .1) (c .before .before .before .before .before .push-alike .kept .1 .1 .1 .1 .0)
 
--- src/lib.rt:115:1
 same-length-2 : tie.Need-same-length-2 Inv-loop μ-loop
 same-length-2 c = c .before .loop .inv .size
 
--- src/lib.rt:115:1
 returns-2 : tie.Need-returns-2 Inv-loop μ-loop
 returns-2 c = along-ends (lists (c .before .before .before .before .before .before .before .args .words .now) (c .before .before .before .before .before .before .before .args .map .now) (c .before .before .before .before .before .before .before .args .bytes .now) (c .before .before .before .before .before .before .before .args .elems .now)) (c .before .before .before .before .before .before .before .args .c) (c .before .before .before .before .before .before .before .args .p) (c .before .before .before .before .before .before .before .args .q) (c .before .before .before .before .before .before .before .args .n) (c .before .before .before .before .before .before .before .args .scratch .now) (c .before .before .before .before .before .before .before .args .top) (c .before .before .before .before .before .before .before .pre) (c .before .loop .scratch) (c .before .loop .height) (c .before .loop .j) (c .before .loop .inv) (c .loop-test .left)
 

@@ -5,71 +5,52 @@ use Rattle.heap_equal.proofs.Pushing.{part-size, join-asks, stack-room,
 use borrow.Author.Needs.{needs}
 use Rattle.heap_equal.proofs.push_pair.Statement.{statement}
 use Rattle.heap_equal.proofs.push_pair.Tie as tie
-use Rattle.heap_equal.proofs.push_pair.Reads as reads
-use Rattle.heap_equal.proofs.push_pair.Lts as lts
-use Rattle.leaf_classes.proofs.join.Reads as join-reads
 
--- src/lib.rt:73:28
 slice-relend-prefix-join : tie.Need-slice-relend-prefix-join
 slice-relend-prefix-join c = search needs
 
--- src/lib.rt:73:28
 slice-aggregate-join : tie.Need-slice-aggregate-join
 slice-aggregate-join c = part-size (c .before .before .args .c) (c .before .before .args .scratch .now) (c .before .before .args .top) (c .before .before .args .s) (c .before .before .args .t) (c .before .before .pre)
 
--- src/lib.rt:73:9
 join-requires : tie.Need-join-requires
 join-requires c κs = join-asks (c .before .before .args .c) (c .before .before .args .scratch .now) (c .before .before .args .top) (c .before .before .args .s) (c .before .before .args .t) (c .before .before .pre)
 
--- src/lib.rt:74:9
 same-length : tie.Need-same-length
 same-length c = search needs
 
--- src/lib.rt:74:9
 returns : tie.Need-returns
 returns c = not-pushed (c .before .before .before .before .before .before .args .c) (c .before .before .before .before .before .before .args .scratch .now) (c .before .before .before .before .before .before .args .top) (c .before .before .before .before .before .before .args .s) (c .before .before .before .before .before .before .args .t) (c .before .before .before .before .before .before .pre) (c .before .before .before .join .last .0) (c .before .before .before .join .result) (c .before .before .before .join .ensures) (c .if1 .taken)
 
--- src/lib.rt:76:14
 mul-at : tie.Need-mul-at
 mul-at c = search needs
 
--- src/lib.rt:76:22
 mul-at-2 : tie.Need-mul-at-2
 mul-at-2 c = omega (arith, stack-room (c .before .before .before .before .before .before .args .c) (c .before .before .before .before .before .before .args .scratch .now) (c .before .before .before .before .before .before .args .top) (c .before .before .before .before .before .before .args .s) (c .before .before .before .before .before .before .args .t) (c .before .before .before .before .before .before .pre))
 
--- src/lib.rt:76:14
 add-at : tie.Need-add-at
 add-at c = omega (arith, stack-room (c .before .before .before .before .before .before .args .c) (c .before .before .before .before .before .before .args .scratch .now) (c .before .before .before .before .before .before .args .top) (c .before .before .before .before .before .before .args .s) (c .before .before .before .before .before .before .args .t) (c .before .before .before .before .before .before .pre))
 
--- src/lib.rt:77:5
 mul-scratch : tie.Need-mul-scratch
 mul-scratch c = omega (arith, stack-room (c .before .before .before .before .before .before .args .c) (c .before .before .before .before .before .before .args .scratch .now) (c .before .before .before .before .before .before .args .top) (c .before .before .before .before .before .before .args .s) (c .before .before .before .before .before .before .args .t) (c .before .before .before .before .before .before .pre))
 
--- src/lib.rt:77:5
 slice-write-scratch : tie.Need-slice-write-scratch
 slice-write-scratch c = omega (arith, stack-room (c .before .before .before .before .before .before .args .c) (c .before .before .before .before .before .before .args .scratch .now) (c .before .before .before .before .before .before .args .top) (c .before .before .before .before .before .before .args .s) (c .before .before .before .before .before .before .args .t) (c .before .before .before .before .before .before .pre), with-part (c .before .before .before .before .before .before .args .c) (c .before .before .before .before .before .before .args .scratch .now) (c .before .before .before .before .before .before .args .top) (c .before .before .before .before .before .before .args .s) (c .before .before .before .before .before .before .args .t) (c .before .before .before .before .before .before .pre) (c .before .before .before .join .last .0) (c .before .before .before .join .kept .0))
 
--- src/lib.rt:78:13
 add-scratch : tie.Need-add-scratch
 add-scratch c = omega (arith, stack-room (c .before .before .before .before .before .before .args .c) (c .before .before .before .before .before .before .args .scratch .now) (c .before .before .before .before .before .before .args .top) (c .before .before .before .before .before .before .args .s) (c .before .before .before .before .before .before .args .t) (c .before .before .before .before .before .before .pre))
 
--- src/lib.rt:78:5
 mul-scratch-2 : tie.Need-mul-scratch-2
 mul-scratch-2 c = omega (arith, stack-room (c .before .before .before .before .before .before .args .c) (c .before .before .before .before .before .before .args .scratch .now) (c .before .before .before .before .before .before .args .top) (c .before .before .before .before .before .before .args .s) (c .before .before .before .before .before .before .args .t) (c .before .before .before .before .before .before .pre))
 
--- src/lib.rt:78:5
 slice-write-scratch-2 : tie.Need-slice-write-scratch-2
 slice-write-scratch-2 c = simp length-set (omega (arith, stack-room (c .before .before .before .before .before .before .args .c) (c .before .before .before .before .before .before .args .scratch .now) (c .before .before .before .before .before .before .args .top) (c .before .before .before .before .before .before .args .s) (c .before .before .before .before .before .before .args .t) (c .before .before .before .before .before .before .pre), with-part (c .before .before .before .before .before .before .args .c) (c .before .before .before .before .before .before .args .scratch .now) (c .before .before .before .before .before .before .args .top) (c .before .before .before .before .before .before .args .s) (c .before .before .before .before .before .before .args .t) (c .before .before .before .before .before .before .pre) (c .before .before .before .join .last .0) (c .before .before .before .join .kept .0)))
 
--- src/lib.rt:79:5
 add-result : tie.Need-add-result
 add-result c = omega (arith, stack-room (c .before .before .before .before .before .before .args .c) (c .before .before .before .before .before .before .args .scratch .now) (c .before .before .before .before .before .before .args .top) (c .before .before .before .before .before .before .args .s) (c .before .before .before .before .before .before .args .t) (c .before .before .before .before .before .before .pre))
 
--- src/lib.rt:69:1
 same-length-2 : tie.Need-same-length-2
 same-length-2 c = search needs
 
--- src/lib.rt:69:1
 returns-2 : tie.Need-returns-2
 returns-2 c = pushed (c .before .before .before .before .before .before .args .c) (c .before .before .before .before .before .before .args .scratch .now) (c .before .before .before .before .before .before .args .top) (c .before .before .before .before .before .before .args .s) (c .before .before .before .before .before .before .args .t) (c .before .before .before .before .before .before .pre) (c .before .before .before .join .last .0) (c .before .before .before .join .result) (c .before .before .before .join .ensures) (c .if1 .left)
 

@@ -10,79 +10,55 @@ use Rattle.heap_equal.proofs.Walking.{rows-there, can-join, texts-there
 use borrow.Author.Needs.{needs}
 use Rattle.heap_equal.proofs.walk_step.Statement.{statement}
 use Rattle.heap_equal.proofs.walk_step.Tie as tie
-use Rattle.heap_equal.proofs.walk_step.Reads as reads
-use Rattle.heap_equal.proofs.walk_step.Lts as lts
-use Rattle.heap_equal.proofs.join_walks.Reads as join-walks-reads
-use Rattle.heap_equal.proofs.parts_of.Reads as parts-of-reads
-use Rattle.heap_equal.proofs.push_alike.Reads as push-alike-reads
-use Rattle.heap_eqv.proofs.eqv_cells.Reads as eqv-cells-reads
-use Rattle.leaf_cells.proofs.load.Reads as load-reads
 
--- src/lib.rt:171:9
 parts-of-requires : tie.Need-parts-of-requires
 parts-of-requires c κs = rows-there (lists (c .before .before .before .before .before .args .words .now) (c .before .before .before .before .before .args .map .now) (c .before .before .before .before .before .args .bytes .now) (c .before .before .before .before .before .args .elems .now)) (c .before .before .before .before .before .args .c) (c .before .before .before .before .before .args .scratch .now) (c .before .before .before .before .before .args .top) (c .before .before .before .before .before .args .s) (c .before .before .before .before .before .args .t) (c .before .before .before .before .before .pre)
 
--- src/lib.rt:172:22
 enum-known-parts : tie.Need-enum-known-parts
 enum-known-parts c = search needs
 
--- src/lib.rt:173:13
 load-requires : tie.Need-load-requires
 load-requires c κs = rows-there (lists (c .before .before .before .before .before .before .before .args .words .now) (c .before .before .before .before .before .before .before .args .map .now) (c .before .before .before .before .before .before .before .args .bytes .now) (c .before .before .before .before .before .before .before .args .elems .now)) (c .before .before .before .before .before .before .before .args .c) (c .before .before .before .before .before .before .before .args .scratch .now) (c .before .before .before .before .before .before .before .args .top) (c .before .before .before .before .before .before .before .args .s) (c .before .before .before .before .before .before .before .args .t) (c .before .before .before .before .before .before .before .pre) .0
 
--- src/lib.rt:174:13
 load-requires-2 : tie.Need-load-requires-2
 load-requires-2 c κs = rows-there (lists (c .before .before .before .before .before .before .before .before .args .words .now) (c .before .before .before .before .before .before .before .before .args .map .now) (c .before .before .before .before .before .before .before .before .args .bytes .now) (c .before .before .before .before .before .before .before .before .args .elems .now)) (c .before .before .before .before .before .before .before .before .args .c) (c .before .before .before .before .before .before .before .before .args .scratch .now) (c .before .before .before .before .before .before .before .before .args .top) (c .before .before .before .before .before .before .before .before .args .s) (c .before .before .before .before .before .before .before .before .args .t) (c .before .before .before .before .before .before .before .before .pre) .1
 
--- src/lib.rt:175:12
 eqv-cells-requires : tie.Need-eqv-cells-requires
 eqv-cells-requires c κs = texts-there (lists (c .before .before .before .before .before .before .before .before .before .args .words .now) (c .before .before .before .before .before .before .before .before .before .args .map .now) (c .before .before .before .before .before .before .before .before .before .args .bytes .now) (c .before .before .before .before .before .before .before .before .before .args .elems .now)) (c .before .before .before .before .before .before .before .before .before .args .c) (c .before .before .before .before .before .before .before .before .before .args .scratch .now) (c .before .before .before .before .before .before .before .before .before .args .top) (c .before .before .before .before .before .before .before .before .before .args .s) (c .before .before .before .before .before .before .before .before .before .args .t) (c .before .before .before .before .before .before .before .before .before .pre) (cell-of (c .before .load .result)) (cell-of (c .load2 .result)) (c .before .load .ensures) (c .load2 .ensures)
 
--- src/lib.rt:176:13
 returns : tie.Need-returns
 returns c = walk-over (lists (c .before .before .before .before .before .before .before .before .before .before .before .args .words .now) (c .before .before .before .before .before .before .before .before .before .before .before .args .map .now) (c .before .before .before .before .before .before .before .before .before .before .before .args .bytes .now) (c .before .before .before .before .before .before .before .before .before .before .before .args .elems .now)) (c .before .before .before .before .before .before .before .before .before .before .before .args .c) (c .before .before .before .before .before .before .before .before .before .before .before .args .scratch .now) (c .before .before .before .before .before .before .before .before .before .before .before .args .top) (c .before .before .before .before .before .before .before .before .before .before .before .args .s) (c .before .before .before .before .before .before .before .before .before .before .before .args .t) (c .before .before .before .before .before .before .before .before .before .before .before .pre) (c .before .before .before .before .before .parts-of .result) (c .before .before .before .before .before .parts-of .ensures) (λ a d b e q. pairs-first _ (c .before .before .before .before .match .keys2) (ap (λ (x : Parts). tagOf the-type x) q)) (cell-of (c .before .before .before .load .result)) (cell-of (c .before .before .load2 .result)) (c .before .eqv-cells .result) (c .before .before .before .load .ensures) (c .before .before .load2 .ensures) (c .before .eqv-cells .ensures) (c .if1 .taken)
 
--- src/lib.rt:178:9
 returns-2 : tie.Need-returns-2
 returns-2 c = walk-fails (lists (c .before .before .before .before .before .before .before .before .before .before .before .args .words .now) (c .before .before .before .before .before .before .before .before .before .before .before .args .map .now) (c .before .before .before .before .before .before .before .before .before .before .before .args .bytes .now) (c .before .before .before .before .before .before .before .before .before .before .before .args .elems .now)) (c .before .before .before .before .before .before .before .before .before .before .before .args .c) (c .before .before .before .before .before .before .before .before .before .before .before .args .scratch .now) (c .before .before .before .before .before .before .before .before .before .before .before .args .top) (c .before .before .before .before .before .before .before .before .before .before .before .args .s) (c .before .before .before .before .before .before .before .before .before .before .before .args .t) (c .before .before .before .before .before .before .before .before .before .before .before .pre) (c .before .before .before .before .before .parts-of .result) (c .before .before .before .before .before .parts-of .ensures) (λ a d b e q. pairs-first _ (c .before .before .before .before .match .keys2) (ap (λ (x : Parts). tagOf the-type x) q)) (cell-of (c .before .before .before .load .result)) (cell-of (c .before .before .load2 .result)) (c .before .eqv-cells .result) (c .before .before .before .load .ensures) (c .before .before .load2 .ensures) (c .before .eqv-cells .ensures) (c .if1 .left)
 
--- src/lib.rt:180:9
 join-walks-requires : tie.Need-join-walks-requires
 join-walks-requires c κs = can-join (lists (c .before .before .before .before .before .before .before .before .before .before .args .words .now) (c .before .before .before .before .before .before .before .before .before .before .args .map .now) (c .before .before .before .before .before .before .before .before .before .before .args .bytes .now) (c .before .before .before .before .before .before .before .before .before .before .args .elems .now)) (c .before .before .before .before .before .before .before .before .before .before .args .c) (c .before .before .before .before .before .before .before .before .before .before .args .scratch .now) (c .before .before .before .before .before .before .before .before .before .before .args .top) (c .before .before .before .before .before .before .before .before .before .before .args .s) (c .before .before .before .before .before .before .before .before .before .before .args .t) (c .before .before .before .before .before .before .before .before .before .before .pre)
 
--- src/lib.rt:181:9
 same-length : tie.Need-same-length
 same-length c = search needs
 
--- src/lib.rt:181:9
 returns-3 : tie.Need-returns-3
 returns-3 c = walk-met (lists (c .before .before .before .before .before .before .before .before .before .before .before .before .before .before .args .words .now) (c .before .before .before .before .before .before .before .before .before .before .before .before .before .before .args .map .now) (c .before .before .before .before .before .before .before .before .before .before .before .before .before .before .args .bytes .now) (c .before .before .before .before .before .before .before .before .before .before .before .before .before .before .args .elems .now)) (c .before .before .before .before .before .before .before .before .before .before .before .before .before .before .args .c) (c .before .before .before .before .before .before .before .before .before .before .before .before .before .before .args .scratch .now) (c .before .before .before .before .before .before .before .before .before .before .before .before .before .before .args .top) (c .before .before .before .before .before .before .before .before .before .before .before .before .before .before .args .s) (c .before .before .before .before .before .before .before .before .before .before .before .before .before .before .args .t) (c .before .before .before .before .before .before .before .before .before .before .before .before .before .before .pre) (c .before .before .before .before .before .before .before .before .parts-of .result) (c .before .before .before .before .before .before .before .before .parts-of .ensures) (c .before .before .before .before .before .before .parts .given .0 .0) (c .before .before .before .before .before .before .parts .given .0 .1 .0) (c .before .before .before .before .before .before .parts .given .0 .1 .1 .0) (c .before .before .before .before .before .before .parts .given .0 .1 .1 .1 .0) (c .before .before .before .before .before .before .parts .given .1) (c .before .before .before .join-walks .result) (c .before .before .before .join-walks .last .0) (c .before .before .before .join-walks .ensures) (c .if2 .taken)
 
--- src/lib.rt:183:9
 push-alike-requires : tie.Need-push-alike-requires
 push-alike-requires c κs = cars-ask (lists (c .before .before .before .before .before .before .before .before .before .before .before .before .before .before .before .args .words .now) (c .before .before .before .before .before .before .before .before .before .before .before .before .before .before .before .args .map .now) (c .before .before .before .before .before .before .before .before .before .before .before .before .before .before .before .args .bytes .now) (c .before .before .before .before .before .before .before .before .before .before .before .before .before .before .before .args .elems .now)) (c .before .before .before .before .before .before .before .before .before .before .before .before .before .before .before .args .c) (c .before .before .before .before .before .before .before .before .before .before .before .before .before .before .before .args .scratch .now) (c .before .before .before .before .before .before .before .before .before .before .before .before .before .before .before .args .top) (c .before .before .before .before .before .before .before .before .before .before .before .before .before .before .before .args .s) (c .before .before .before .before .before .before .before .before .before .before .before .before .before .before .before .args .t) (c .before .before .before .before .before .before .before .before .before .before .before .before .before .before .before .pre) (c .before .before .before .before .before .before .before .before .before .parts-of .result) (c .before .before .before .before .before .before .before .before .before .parts-of .ensures) (c .before .before .before .before .before .before .before .parts .given .0 .0) (c .before .before .before .before .before .before .before .parts .given .0 .1 .0) (c .before .before .before .before .before .before .before .parts .given .0 .1 .1 .0) (c .before .before .before .before .before .before .before .parts .given .0 .1 .1 .1 .0) (c .before .before .before .before .before .before .before .parts .given .1) (c .before .before .before .before .join-walks .result) (c .before .before .before .before .join-walks .last .0) (c .before .before .before .before .join-walks .ensures) (c .before .if2 .left)
 
--- src/lib.rt:195:22
 enum-known-next : tie.Need-enum-known-next
 enum-known-next c = search needs
 
--- src/lib.rt:196:26
 enum-told : tie.Need-enum-told
 enum-told c = search needs
 
--- src/lib.rt:156:1
 same-length-2 : tie.Need-same-length-2
 same-length-2 c = search needs
 
--- src/lib.rt:156:1
 returns-4 : tie.Need-returns-4
 returns-4 c = walk-on (lists (c .before .before .before .before .before .before .before .before .before .before .before .before .before .before .before .before .before .before .before .before .before .args .words .now) (c .before .before .before .before .before .before .before .before .before .before .before .before .before .before .before .before .before .before .before .before .before .args .map .now) (c .before .before .before .before .before .before .before .before .before .before .before .before .before .before .before .before .before .before .before .before .before .args .bytes .now) (c .before .before .before .before .before .before .before .before .before .before .before .before .before .before .before .before .before .before .before .before .before .args .elems .now)) (c .before .before .before .before .before .before .before .before .before .before .before .before .before .before .before .before .before .before .before .before .before .args .c) (c .before .before .before .before .before .before .before .before .before .before .before .before .before .before .before .before .before .before .before .before .before .args .scratch .now) (c .before .before .before .before .before .before .before .before .before .before .before .before .before .before .before .before .before .before .before .before .before .args .top) (c .before .before .before .before .before .before .before .before .before .before .before .before .before .before .before .before .before .before .before .before .before .args .s) (c .before .before .before .before .before .before .before .before .before .before .before .before .before .before .before .before .before .before .before .before .before .args .t) (c .before .before .before .before .before .before .before .before .before .before .before .before .before .before .before .before .before .before .before .before .before .pre) (c .before .before .before .before .before .before .before .before .before .before .before .before .before .before .before .parts-of .result) (c .before .before .before .before .before .before .before .before .before .before .before .before .before .before .before .parts-of .ensures) (c .before .before .before .before .before .before .before .before .before .before .before .before .before .parts .given .0 .0) (c .before .before .before .before .before .before .before .before .before .before .before .before .before .parts .given .0 .1 .0) (c .before .before .before .before .before .before .before .before .before .before .before .before .before .parts .given .0 .1 .1 .0) (c .before .before .before .before .before .before .before .before .before .before .before .before .before .parts .given .0 .1 .1 .1 .0) (c .before .before .before .before .before .before .before .before .before .before .before .before .before .parts .given .1) (c .before .before .before .before .before .before .before .before .before .before .join-walks .result) (c .before .before .before .before .before .before .before .before .before .before .join-walks .last .0) (c .before .before .before .before .before .before .before .before .before .before .join-walks .ensures) (c .before .before .before .before .before .before .before .if2 .left) (c .before .before .before .before .before .push-alike .last .1 .1 .1 .1 .0) (c .before .before .before .before .before .push-alike .result) (c .before .before .before .before .before .push-alike .ensures) (c .before .next .given .0 .0) (c .before .next .given .1)
 
--- src/lib.rt:156:1
 same-length-3 : tie.Need-same-length-3
 same-length-3 c = search needs
 
--- src/lib.rt:156:1
 returns-5 : tie.Need-returns-5
 returns-5 c = walk-stops (lists (c .before .before .before .before .before .before .before .before .before .before .before .before .before .before .before .before .before .before .before .before .args .words .now) (c .before .before .before .before .before .before .before .before .before .before .before .before .before .before .before .before .before .before .before .before .args .map .now) (c .before .before .before .before .before .before .before .before .before .before .before .before .before .before .before .before .before .before .before .before .args .bytes .now) (c .before .before .before .before .before .before .before .before .before .before .before .before .before .before .before .before .before .before .before .before .args .elems .now)) (c .before .before .before .before .before .before .before .before .before .before .before .before .before .before .before .before .before .before .before .before .args .c) (c .before .before .before .before .before .before .before .before .before .before .before .before .before .before .before .before .before .before .before .before .args .scratch .now) (c .before .before .before .before .before .before .before .before .before .before .before .before .before .before .before .before .before .before .before .before .args .top) (c .before .before .before .before .before .before .before .before .before .before .before .before .before .before .before .before .before .before .before .before .args .s) (c .before .before .before .before .before .before .before .before .before .before .before .before .before .before .before .before .before .before .before .before .args .t) (c .before .before .before .before .before .before .before .before .before .before .before .before .before .before .before .before .before .before .before .before .pre) (c .before .before .before .before .before .before .before .before .before .before .before .before .before .before .parts-of .result) (c .before .before .before .before .before .before .before .before .before .before .before .before .before .before .parts-of .ensures) (c .before .before .before .before .before .before .before .before .before .before .before .before .parts .given .0 .0) (c .before .before .before .before .before .before .before .before .before .before .before .before .parts .given .0 .1 .0) (c .before .before .before .before .before .before .before .before .before .before .before .before .parts .given .0 .1 .1 .0) (c .before .before .before .before .before .before .before .before .before .before .before .before .parts .given .0 .1 .1 .1 .0) (c .before .before .before .before .before .before .before .before .before .before .before .before .parts .given .1) (c .before .before .before .before .before .before .before .before .before .join-walks .result) (c .before .before .before .before .before .before .before .before .before .join-walks .last .0) (c .before .before .before .before .before .before .before .before .before .join-walks .ensures) (c .before .before .before .before .before .before .if2 .left) (c .before .before .before .before .push-alike .last .1 .1 .1 .1 .0) (c .before .before .before .before .push-alike .result) (c .before .before .before .before .push-alike .ensures) (second-next _ (c .before .match2 .keys2))
 
