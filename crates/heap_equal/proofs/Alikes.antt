@@ -6,10 +6,10 @@ use mathlib.Core.Logic.{_⊎_, ⊎-elim}
 use Prim.Native.Nat.{ℕ, suc, _+_, _*_, _≤_, _<_}
 use native.Mathlib.Omega.{arith}
 use lib.ListN.{length}
-use Rattle.rules.specs.Cells.{Scalar, undefined, nil, eof, void, bool, char, number, Value, slot, scalar, Block, Cell, vector}
-use Rattle.rules.specs.Heap.{Heap, capacity, cell-at, in-use, elements-of}
+use Rattle.rules.specs.Cells.{Scalar, undefined, nil, eof, void, bool, char, number, Value, slot, scalar, Block, vector}
+use Rattle.rules.specs.Heap.{Heap, cell-at, elements-of}
 use Rattle.rules.specs.Layout.{Lent, heap-of}
-use Rattle.rules.specs.Equal.{eqv, Goal, alike, fails, needs, slots-step, unlike-step, step, equal-rules}
+use Rattle.rules.specs.Equal.{eqv, Goal, alike, fails, slots-step, unlike-step, step, equal-rules}
 use Rattle.rules.specs.Calls.{value-in-use}
 use Rattle.equal_laws.proofs.Steps.{step-eqv, step-unlike, step-slots}
 use Rattle.leaf_cells.specs.Cells.{loaded}
@@ -20,8 +20,8 @@ use Rattle.heap_eqv.specs.Eqv.{Comparable}
 use Rattle.heap_equal.specs.declared.Parts.{Parts}
 use Rattle.heap_equal.specs.declared.Parts.the-variants.{Unlike}
 use Rattle.heap_equal.specs.declared.Next.the-variants as next
-use Rattle.heap_equal.specs.Parts.{parted, wanted, part-rules}
-use Rattle.heap_equal.specs.Boards.{CanPush, PairPushed, Ready, Moved, Refuted, NextTold, UsedSlots}
+use Rattle.heap_equal.specs.Parts.{parted, part-rules}
+use Rattle.heap_equal.specs.Boards.{CanPush, PairPushed, Ready, Moved, NextTold, UsedSlots}
 use Rattle.heap_equal.proofs.CellParts.{unlike-fails, like-needs}
 use Rattle.heap_equal.proofs.SoundLists.{slot-below, rows-inside, parts-loaded, elements-whole}
 use Rattle.heap_equal.proofs.Moves.{step-fails, needless, pair-pushed}
@@ -121,7 +121,7 @@ module _ (l : Lent) (c : ℕ) (sc : List ℕ) (top : ℕ) (v w : Value) (pre : R
           unfolding NextTold part-rules
           parts-alike ne sc′ n done =
               let need =
-                    like-needs h s t (cell-at h s) (cell-at h t) (whole s) (whole t) (λ e. ne (parts-are ∙ sym e)) in
+              like-needs h s t (cell-at h s) (cell-at h t) (whole s) (whole t) (λ e. ne (parts-are ∙ sym e)) in
               subst (λ (g : Goal). Moved h c (g ∷ []) sc top [] sc′ n) (sym (λ i. alike (vs i) (ws i)))
               (pair-pushed h c sc top (pre .0 .shape) s t both-used (can-push .first) (can-push .second)
               (sym (λ i. step h (alike (vs i) (ws i))) ∙ step-is ∙ need)

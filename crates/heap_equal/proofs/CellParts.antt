@@ -1,19 +1,18 @@
 -- What two cells are compared by is what a step of `equal` needs. Assumes nothing.
-use mathlib.Core.Path.{_≡_, refl, sym, ap, _∙_, subst}
+use mathlib.Core.Path.{_≡_, refl, sym, ap, _∙_}
 use mathlib.Core.Bool.{Bool, true, false}
-use mathlib.Core.List.{List, [], _∷_}
+use mathlib.Core.List.{[], _∷_}
 use mathlib.Core.Logic.{_⊎_, ⊎-elim}
 use Prim.Native.Nat.{ℕ, _<_}
 use native.Mathlib.Omega.{arith}
-use native.Mathlib.Decide.{ℕ-discrete}
 use borrow.Author.Tests.{eqb-true, eqb-false, eq-eqb, ne-eqb}
 use denote.Enum.Declared.{tagOf}
 use lib.Dec.{eqb}
 use lib.ListN.{length}
 use Rattle.laws.specs.Basics.{choose}
-use Rattle.rules.specs.Cells.{Value, Block, block, Cell, plain, pair, symbol, string, vector}
+use Rattle.rules.specs.Cells.{Block, block, Cell, plain, pair, symbol, string, vector}
 use Rattle.rules.specs.Heap.{Heap, cell-at, elements-of}
-use Rattle.rules.specs.Equal.{Goal, walks, alike, Step, fails, needs, element-by-element, vectors-step, slots-step, walk-step, holds-if, eqv-cells, equal-rules}
+use Rattle.rules.specs.Equal.{walks, Step, fails, needs, element-by-element, vectors-step, slots-step, walk-step, holds-if, eqv-cells, equal-rules}
 use Rattle.equal_laws.proofs.Steps.{one-length, two-lengths}
 use Rattle.leaf_cells.specs.Cells.{cell-of}
 use Rattle.leaf_cells.specs.declared.VCell.{VCell}

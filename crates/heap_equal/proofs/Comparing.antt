@@ -1,16 +1,16 @@
 -- The pairs on the stack, turn by turn: the run that was given is the one that is left. Each turn takes a pair from the stack and
 -- puts no more on it than the classes grow by; each step of the walk makes the walk's classes grow. Assumes nothing.
-use mathlib.Core.Path.{_≡_, refl, sym, ap, _∙_, subst}
+use mathlib.Core.Path.{_≡_, refl, sym, _∙_, subst}
 use mathlib.Core.Bool.{Bool, true, false}
-use mathlib.Core.List.{List, [], _∷_, _++_}
-use Prim.Native.Nat.{ℕ, zero, suc, _+_, _-_, _*_, _≤_, _<_}
+use mathlib.Core.List.{List, [], _∷_}
+use Prim.Native.Nat.{ℕ, _+_, _-_, _*_, _≤_, _<_}
 use native.Mathlib.Omega.{arith}
 use denote.Enum.Declared.{tagOf}
 use lib.ListN.{length, take, drop}
-use Rattle.rules.specs.Cells.{Value, Block, block, Cell, pair, vector}
+use Rattle.rules.specs.Cells.{Block, block, vector}
 use Rattle.rules.specs.Heap.{Heap, cell-at, elements-of}
 use Rattle.rules.specs.Layout.{Lent, heap-of}
-use Rattle.rules.specs.Equal.{Goal, alike, walks, Equal}
+use Rattle.rules.specs.Equal.{Goal, alike, walks}
 use Rattle.leaf_classes.specs.Classes.{weight}
 use Rattle.leaf_classes.proofs.Roots.{weight-most}
 use Rattle.leaf_cells.specs.Cells.{loaded}
@@ -109,7 +109,7 @@ module _ (l : Lent) (c : ℕ) (sc₀ : List ℕ) (top₀ : ℕ) (pre : Ready l c
             size = same ∙ so-far .size;
             no-failure = so-far .no-failure;
             moved =
-              moved-then h c [] [] [] sc₀ sc sc′ top₀ top k (so-far .moved) (moved-then h c [] gs [] sc sc sc′ top n k (taken gs e) m);
+                moved-then h c [] [] [] sc₀ sc sc′ top₀ top k (so-far .moved) (moved-then h c [] gs [] sc sc sc′ top n k (taken gs e) m);
           }
 
       less : (sc′ : List ℕ) (k : ℕ) (gs : List Goal) → Moved h c gs sc n [] sc′ k → k + left c sc′ < top + left c sc
@@ -157,11 +157,10 @@ module _ (l : Lent) (c : ℕ) (sc₀ : List ℕ) (top₀ : ℕ) (pre : Ready l c
               ∙ elements-face l (pre .lists-sound) s t x y m (cells-are .0) (cells-are .1)
 
           pub vectors-ask : Ready l c sc n × Elements l x y m
-          vectors-ask =
-              (
-                record { lists-sound = pre .lists-sound; shape = taken (facing (l .elems) x y m) faces .shape },
-                two-blocks l (pre .lists-sound) s t x y m (cells-are .0) (cells-are .1),
-              )
+          vectors-ask = (
+            record { lists-sound = pre .lists-sound; shape = taken (facing (l .elems) x y m) faces .shape },
+            two-blocks l (pre .lists-sound) s t x y m (cells-are .0) (cells-are .1),
+          )
 
           module _ (sc′ : List ℕ) (r : Next) (told : NextTold h c (facing (l .elems) x y m) sc n sc′ r) where
             module _ (k : ℕ) (e : r ≡ next.Height k) where
@@ -218,7 +217,7 @@ module _ (l : Lent) (c : ℕ) (sc₀ : List ℕ) (top₀ : ℕ) (pre : Ready l c
                       size = same ∙ way .size;
                       no-failure = way .no-failure;
                       moved =
-                        moved-then h c (walks s t ∷ []) (walks s₁ t₁ ∷ []) (walks d e ∷ []) sc sc₁ sc₂ n top₁ k (way .moved) (on-told .moved);
+                          moved-then h c (walks s t ∷ []) (walks s₁ t₁ ∷ []) (walks d e ∷ []) sc sc₁ sc₂ n top₁ k (way .moved) (on-told .moved);
                       used = on-told .used;
                     }
 

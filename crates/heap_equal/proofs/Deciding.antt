@@ -1,5 +1,5 @@
 -- From cleared scratch to the answer. Assumes nothing.
-use mathlib.Core.Path.{_≡_, refl, sym, ap, _∙_, subst}
+use mathlib.Core.Path.{_≡_, sym, ap, _∙_, subst}
 use mathlib.Core.Bool.{Bool, false}
 use mathlib.Core.List.{List, [], _∷_}
 use Prim.Native.Nat.{ℕ, _+_, _*_, _≤_, _<_}
@@ -63,14 +63,13 @@ module _ (l : Lent) (sc : List ℕ) (v w : Value) (pre : Comparable l v w × Roo
   zeroed-size = ap length zeroed ∙ length-zeros (length sc)
 
   pub decide-asks : Comparable l v w × (Room l sc′ × Clear sc′)
-  decide-asks =
-      (
-        pre .0,
-        (
-          record { long = omega (arith, pre .1 .long, zeroed-size) },
-          record { all-zero = zeroed ∙ ap zeros (sym zeroed-size) },
-        ),
-      )
+  decide-asks = (
+    pre .0,
+    (
+      record { long = omega (arith, pre .1 .long, zeroed-size) },
+      record { all-zero = zeroed ∙ ap zeros (sym zeroed-size) },
+    ),
+  )
 
   pub answered : (r : Bool) → Equal (heap-of l) v w r → (sc₂ sc₃ : List ℕ) → length sc₂ ≡ length sc′ → sc₃ ≡ zeros (length sc₂) → Answered (heap-of l) sc v w sc₃ r
   unfolding cleared

@@ -1,8 +1,7 @@
 -- The elements of two vectors, one pair after the other: what was to compare is what is left. Assumes nothing.
 use mathlib.Core.Path.{_≡_, refl, sym, ap, _∙_, subst}
-use mathlib.Core.Bool.{Bool, true, false}
-use mathlib.Core.List.{List, [], _∷_, _++_}
-use Prim.Native.Nat.{ℕ, zero, suc, _+_, _-_, _*_, _≤_, _<_}
+use mathlib.Core.List.{List, [], _∷_}
+use Prim.Native.Nat.{ℕ, suc, _+_, _-_, _≤_, _<_}
 use native.Mathlib.Omega.{arith}
 use lib.ListN.{length}
 use Rattle.rules.specs.Cells.{Value}
@@ -15,7 +14,7 @@ use Rattle.heap_eqv.specs.Eqv.{Comparable}
 use Rattle.heap_equal.specs.declared.Next.{Next}
 use Rattle.heap_equal.specs.declared.Next.the-variants as next
 use Rattle.heap_equal.specs.Parts.{facing}
-use Rattle.heap_equal.specs.Boards.{Shape, Ready, Moved, Refuted, Elements, NextTold}
+use Rattle.heap_equal.specs.Boards.{Shape, Ready, Moved, Elements, NextTold}
 use Rattle.heap_equal.proofs.Moves.{stay, moved-then, moved-before, refuted-then, refuted-before}
 
 -- j pairs of elements are done
@@ -33,8 +32,8 @@ along-begins h c elems p q n sc top sh =
       size = refl;
       low = omega arith;
       moved =
-        subst (λ (g : List Goal). Moved h c (facing elems p q n) sc top g sc top) (λ i. facing elems (a i) (b i) (d i))
-        (stay h c sc top (facing elems p q n) sh);
+          subst (λ (g : List Goal). Moved h c (facing elems p q n) sc top g sc top) (λ i. facing elems (a i) (b i) (d i))
+          (stay h c sc top (facing elems p q n) sh);
     }
 
 module _ (l : Lent) (c p q n : ℕ) (sc₀ : List ℕ) (top : ℕ) (pre : Ready l c sc₀ top × Elements l p q n) (sc : List ℕ) (height j : ℕ)
@@ -50,15 +49,14 @@ module _ (l : Lent) (c p q n : ℕ) (sc₀ : List ℕ) (top : ℕ) (pre : Ready 
 
   module _ (on : j < n) (v w : Value) (v-is : v ≡ loaded-element (l .elems) (p + j)) (w-is : w ≡ loaded-element (l .elems) (q + j)) where
     pub next-asks : Ready l c sc height × Comparable l v w
-    next-asks =
-        (
-          record { lists-sound = pre .0 .lists-sound; shape = a .moved .shape },
-          record {
-            lists-sound = pre .0 .lists-sound;
-            first = ap (value-in-use h) v-is ∙ pre .1 .first-used j on;
-            second = ap (value-in-use h) w-is ∙ pre .1 .second-used j on;
-          },
-        )
+    next-asks = (
+      record { lists-sound = pre .0 .lists-sound; shape = a .moved .shape },
+      record {
+        lists-sound = pre .0 .lists-sound;
+        first = ap (value-in-use h) v-is ∙ pre .1 .first-used j on;
+        second = ap (value-in-use h) w-is ∙ pre .1 .second-used j on;
+      },
+    )
 
     abbrev later : List Goal
     later = facing (l .elems) (p + (j + 1)) (q + (j + 1)) (n - (j + 1))
@@ -83,8 +81,8 @@ module _ (l : Lent) (c p q n : ℕ) (sc₀ : List ℕ) (top : ℕ) (pre : Ready 
             size = same ∙ a .size;
             low = omega arith;
             moved =
-              moved-then h c (facing (l .elems) p q n) (alike v w ∷ later) later sc₀ sc sc′ top height k so-far
-              (moved-before h c (alike v w ∷ []) [] later sc sc′ height k (subst (λ (x : Next). NextTold h c (alike v w ∷ []) sc height sc′ x) e told));
+                moved-then h c (facing (l .elems) p q n) (alike v w ∷ later) later sc₀ sc sc′ top height k so-far
+                (moved-before h c (alike v w ∷ []) [] later sc sc′ height k (subst (λ (x : Next). NextTold h c (alike v w ∷ []) sc height sc′ x) e told));
           }
 
       pub along-stops : r ≡ next.Differs → NextTold h c (facing (l .elems) p q n) sc₀ top sc′ next.Differs

@@ -1,9 +1,9 @@
 -- What each step of the comparison does to the run that it keeps. Assumes nothing.
 use mathlib.Core.Path.{_≡_, refl, sym, ap, _∙_, subst}
 use mathlib.Core.Bool.{Bool, true, false}
-use mathlib.Core.List.{List, [], _∷_, _++_, append-assoc, append-nil, List·Memᴰ, List·Memᴰ·head, List·Memᴰ·tail, List·Memᴰ·append-cases, Memᴰ·append-left, Memᴰ·append-right}
+use mathlib.Core.List.{List, [], _∷_, _++_, append-assoc, List·Memᴰ, List·Memᴰ·head, List·Memᴰ·append-cases, Memᴰ·append-left, Memᴰ·append-right}
 use mathlib.Core.Logic.{⊎-elim}
-use Prim.Native.Nat.{ℕ, zero, suc, _+_, _-_, _*_, _≤_, _<_}
+use Prim.Native.Nat.{ℕ, suc, _+_, _-_, _*_, _≤_, _<_}
 use native.Mathlib.Omega.{arith}
 use lib.ListN.{length, take, drop, set}
 use lib.Seq.{drop-at}
@@ -12,14 +12,14 @@ use Rattle.laws.proofs.Zeros.{take-zeros, zeros-append}
 use Rattle.laws.proofs.Lists.{length-zeros}
 use Rattle.rules.specs.Cells.{Value, slot}
 use Rattle.rules.specs.Heap.{Heap, capacity, in-use}
-use Rattle.rules.specs.Equal.{eqv, Goal, alike, walks, fails, needs, step, Fails, now, Equal}
-use Rattle.equal_laws.specs.Runs.{Run, Widened}
-use Rattle.equal_laws.proofs.Runs.{begin-with, skip-eqv, skip-needless, skip-alike, skip-walks, take-alike, take-walks, same-taken, reorder, failed, finished}
+use Rattle.rules.specs.Equal.{Goal, alike, walks, fails, needs, step, Fails, now, Equal}
+use Rattle.equal_laws.specs.Runs.{Run}
+use Rattle.equal_laws.proofs.Runs.{begin-with, skip-needless, skip-alike, skip-walks, take-alike, take-walks, same-taken, reorder, finished}
 use Rattle.leaf_classes.specs.Classes.{Together, Rises, weight, joined}
 use Rattle.leaf_classes.proofs.Roots.{weight-most}
 use Rattle.leaf_classes.proofs.Classes.{zeros-rise, zeros-apart, join-keeps, join-no, join-same, join-same-back, join-yes, join-light, join-weight}
 use Rattle.heap_equal.specs.Parts.{wanted, pending, first-of, second-of}
-use Rattle.heap_equal.specs.Boards.{stacked, push-pair, PairPushed, CanPush, CanJoin, WalksJoined, Shape, Board, Moved, Refuted, UsedSlots, Clear}
+use Rattle.heap_equal.specs.Boards.{stacked, push-pair, PairPushed, WalksJoined, Shape, Board, Moved, Refuted, UsedSlots, Clear}
 use Rattle.heap_equal.proofs.Scratch.{Beneath, pending-same, shape-kept, front-size, walks-size, new-front, old-back, front-beneath, pushed-front, pushed-walks, pushed-beneath, pushed-first, pushed-second, pushed-pending, mid-front, mid-walks, mid-beneath}
 
 -- what stands behind may come before
@@ -90,10 +90,10 @@ module _ (h : Heap) (c : ℕ) where
             runs = λ first rest b.
                 record {
                   run =
-                    skip-needless h first (Together (take c sc)) (Together (take c (drop c sc))) g
-                    (rest ++ pending h c sc top)
-                    e
-                    (b .run);
+                      skip-needless h first (Together (take c sc)) (Together (take c (drop c sc))) g
+                      (rest ++ pending h c sc top)
+                      e
+                      (b .run);
                 };
           }
 
@@ -140,25 +140,25 @@ module _ (h : Heap) (c : ℕ) where
             let under = front-beneath c sc (sh .room) k k-size top in
             record {
               shape =
-                shape-kept c top sc kept under h sh (subst (λ (l : List ℕ). Rises l) (sym front-kept) k-rises)
-                (subst (λ (l : List ℕ). Rises l) (sym walks-kept) (sh .walks-rise))
-                (subst (λ (l : List ℕ). weight A ≤ weight l) (sym front-kept) light);
+                  shape-kept c top sc kept under h sh (subst (λ (l : List ℕ). Rises l) (sym front-kept) k-rises)
+                  (subst (λ (l : List ℕ). Rises l) (sym walks-kept) (sh .walks-rise))
+                  (subst (λ (l : List ℕ). weight A ≤ weight l) (sym front-kept) light);
               gain = subst (λ (l : List ℕ). top + weight A ≤ top + weight l) (sym front-kept) (omega (arith, light));
               walk-gain = subst (λ (l : List ℕ). weight (take c (drop c sc)) ≤ weight l) (sym walks-kept) (omega arith);
               runs = λ first rest b.
                   record {
                     run =
-                      subst (λ (gs : List Goal). Run h first (Together (take c kept)) (Together (take c (drop c kept))) (rest ++ gs))
-                      (sym (pending-same c top sc kept under h top (omega arith)))
-                      (same-taken h first (Together A) (Together (take c (drop c sc))) (Together (take c kept)) (Together (take c (drop c kept)))
-                      (rest ++ pending h c sc top)
-                      (λ x y p. subst (λ (l : List ℕ). Together l x y) (sym front-kept) (join-same-back A (sh .alike-rise) s t s-inside t-inside was x y p))
-                      (λ x y p. join-same A (sh .alike-rise) s t s-inside t-inside was x y (subst (λ (l : List ℕ). Together l x y) front-kept p))
-                      (λ x y p. subst (λ (l : List ℕ). Together l x y) (sym walks-kept) p)
-                      (λ x y p. subst (λ (l : List ℕ). Together l x y) walks-kept p)
-                      (skip-alike h first (Together A) (Together (take c (drop c sc))) s t (rest ++ pending h c sc top)
-                      (join-no A (sh .alike-rise) s t s-inside t-inside was)
-                      (b .run)));
+                        subst (λ (gs : List Goal). Run h first (Together (take c kept)) (Together (take c (drop c kept))) (rest ++ gs))
+                        (sym (pending-same c top sc kept under h top (omega arith)))
+                        (same-taken h first (Together A) (Together (take c (drop c sc))) (Together (take c kept)) (Together (take c (drop c kept)))
+                        (rest ++ pending h c sc top)
+                        (λ x y p. subst (λ (l : List ℕ). Together l x y) (sym front-kept) (join-same-back A (sh .alike-rise) s t s-inside t-inside was x y p))
+                        (λ x y p. join-same A (sh .alike-rise) s t s-inside t-inside was x y (subst (λ (l : List ℕ). Together l x y) front-kept p))
+                        (λ x y p. subst (λ (l : List ℕ). Together l x y) (sym walks-kept) p)
+                        (λ x y p. subst (λ (l : List ℕ). Together l x y) walks-kept p)
+                        (skip-alike h first (Together A) (Together (take c (drop c sc))) s t (rest ++ pending h c sc top)
+                        (join-no A (sh .alike-rise) s t s-inside t-inside was)
+                        (b .run)));
                   };
             }
 
@@ -183,45 +183,45 @@ module _ (h : Heap) (c : ℕ) where
         new-class yes-now =
             let heavy = join-weight A (sh .alike-rise) s t s-inside t-inside yes-now in
             let old =
-                  shape-kept c top sc two two-under h sh (subst (λ (l : List ℕ). Rises l) (sym two-front) k-rises)
-                  (subst (λ (l : List ℕ). Rises l) (sym two-walks) (sh .walks-rise))
-                  (subst (λ (l : List ℕ). weight A ≤ weight l) (sym two-front) (omega (arith, heavy))) in
+            shape-kept c top sc two two-under h sh (subst (λ (l : List ℕ). Rises l) (sym two-front) k-rises)
+            (subst (λ (l : List ℕ). Rises l) (sym two-walks) (sh .walks-rise))
+            (subst (λ (l : List ℕ). weight A ≤ weight l) (sym two-front) (omega (arith, heavy))) in
             record {
               shape =
-                record {
-                  slots = sh .slots;
-                  room = old .room;
-                  alike-rise = old .alike-rise;
-                  walks-rise = old .walks-rise;
-                  height = subst (λ (l : List ℕ). top + 1 ≤ weight l) (sym two-front) (omega (arith, heavy, sh .height));
-                  first-used =
-                    two-used (first-of c) s (pushed-first c sc (sh .room) k k-size top s t pair-room) (us .first-used) (old .first-used);
-                  second-used =
-                    two-used (second-of c) t (pushed-second c sc (sh .room) k k-size top s t pair-room) (us .second-used) (old .second-used);
-                };
+                  record {
+                    slots = sh .slots;
+                    room = old .room;
+                    alike-rise = old .alike-rise;
+                    walks-rise = old .walks-rise;
+                    height = subst (λ (l : List ℕ). top + 1 ≤ weight l) (sym two-front) (omega (arith, heavy, sh .height));
+                    first-used =
+                        two-used (first-of c) s (pushed-first c sc (sh .room) k k-size top s t pair-room) (us .first-used) (old .first-used);
+                    second-used =
+                        two-used (second-of c) t (pushed-second c sc (sh .room) k k-size top s t pair-room) (us .second-used) (old .second-used);
+                  };
               gain = subst (λ (l : List ℕ). top + 1 + weight A ≤ top + weight l) (sym two-front) (omega (arith, heavy));
               walk-gain = subst (λ (l : List ℕ). weight (take c (drop c sc)) ≤ weight l) (sym two-walks) (omega arith);
               runs = λ first rest b.
                   record {
                     run =
-                      subst (λ (gs : List Goal). Run h first (Together (take c two)) (Together (take c (drop c two))) (rest ++ gs))
-                      (sym (pushed-pending c sc (sh .room) k k-size top s t pair-room h))
-                      (same-taken h first (Together k) (Together (take c (drop c sc))) (Together (take c two)) (Together (take c (drop c two)))
-                      (rest ++ (wanted h s t ++ pending h c sc top))
-                      (λ x y p. subst (λ (l : List ℕ). Together l x y) (sym two-front) p)
-                      (λ x y p. subst (λ (l : List ℕ). Together l x y) two-front p)
-                      (λ x y p. subst (λ (l : List ℕ). Together l x y) (sym two-walks) p)
-                      (λ x y p. subst (λ (l : List ℕ). Together l x y) two-walks p)
-                      (reorder h first (Together k) (Together (take c (drop c sc)))
-                      (wanted h s t ++ (rest ++ pending h c sc top))
-                      (rest ++ (wanted h s t ++ pending h c sc top))
-                      (swap-in (wanted h s t) rest (pending h c sc top))
-                      (swap-in rest (wanted h s t) (pending h c sc top))
-                      (take-alike h first (Together A) (Together (take c (drop c sc))) (Together k) s t (wanted h s t)
-                      (rest ++ pending h c sc top)
-                      (join-yes A (sh .alike-rise) s t s-inside t-inside yes-now)
-                      ready
-                      (b .run))));
+                        subst (λ (gs : List Goal). Run h first (Together (take c two)) (Together (take c (drop c two))) (rest ++ gs))
+                        (sym (pushed-pending c sc (sh .room) k k-size top s t pair-room h))
+                        (same-taken h first (Together k) (Together (take c (drop c sc))) (Together (take c two)) (Together (take c (drop c two)))
+                        (rest ++ (wanted h s t ++ pending h c sc top))
+                        (λ x y p. subst (λ (l : List ℕ). Together l x y) (sym two-front) p)
+                        (λ x y p. subst (λ (l : List ℕ). Together l x y) two-front p)
+                        (λ x y p. subst (λ (l : List ℕ). Together l x y) (sym two-walks) p)
+                        (λ x y p. subst (λ (l : List ℕ). Together l x y) two-walks p)
+                        (reorder h first (Together k) (Together (take c (drop c sc)))
+                        (wanted h s t ++ (rest ++ pending h c sc top))
+                        (rest ++ (wanted h s t ++ pending h c sc top))
+                        (swap-in (wanted h s t) rest (pending h c sc top))
+                        (swap-in rest (wanted h s t) (pending h c sc top))
+                        (take-alike h first (Together A) (Together (take c (drop c sc))) (Together k) s t (wanted h s t)
+                        (rest ++ pending h c sc top)
+                        (join-yes A (sh .alike-rise) s t s-inside t-inside yes-now)
+                        ready
+                        (b .run))));
                   };
             }
 
@@ -233,6 +233,7 @@ module _ (h : Heap) (c : ℕ) where
           where
             Pushed : List ℕ → ℕ → Type 0
             Pushed x n = Moved h c (alike (slot s) (slot t) ∷ []) sc top [] x n
+
             at : (v : Bool) → joined A s t .widened ≡ v → Pushed (stacked v c kept top s t .scratch) (stacked v c kept top s t .top)
             at true e = new-class e
             at false e = one-class e
@@ -267,9 +268,6 @@ module _ (h : Heap) (c : ℕ) where
         under : Beneath c top sc sc′
         under = subst (λ (l : List ℕ). Beneath c top sc l) (sym (told .scratch-is)) (mid-beneath c sc (sh .room) j j-size top)
 
-        pub joined-size : length sc′ ≡ length sc
-        joined-size = under .size
-
         joined-shape : Shape h c sc′ top
         joined-shape =
             shape-kept c top sc sc′ under h sh (subst (λ (l : List ℕ). Rises l) (sym same-front) (sh .alike-rise))
@@ -283,21 +281,21 @@ module _ (h : Heap) (c : ℕ) where
               shape = joined-shape;
               gain = subst (λ (l : List ℕ). top + weight (take c sc) ≤ top + weight l) (sym same-front) (omega arith);
               walk-gain =
-                subst (λ (l : List ℕ). weight W ≤ weight l) (sym new-walks) (join-light W (sh .walks-rise) s t s-there t-there);
+                  subst (λ (l : List ℕ). weight W ≤ weight l) (sym new-walks) (join-light W (sh .walks-rise) s t s-there t-there);
               runs = λ first rest b.
                   record {
                     run =
-                      subst (λ (p : List Goal). Run h first (Together (take c sc′)) (Together (take c (drop c sc′))) ((gs′ ++ rest) ++ p))
-                      (sym (pending-same c top sc sc′ under h top (omega arith)))
-                      (same-taken h first (Together (take c sc)) (Together j) (Together (take c sc′)) (Together (take c (drop c sc′)))
-                      ((gs′ ++ rest) ++ pending h c sc top)
-                      (λ x y p. subst (λ (l : List ℕ). Together l x y) (sym same-front) p)
-                      (λ x y p. subst (λ (l : List ℕ). Together l x y) same-front p)
-                      (λ x y p. subst (λ (l : List ℕ). Together l x y) (sym new-walks) p)
-                      (λ x y p. subst (λ (l : List ℕ). Together l x y) new-walks p)
-                      (subst (λ (p : List Goal). Run h first (Together (take c sc)) (Together j) p) (sym (append-assoc gs′ rest (pending h c sc top)))
-                      (go first (rest ++ pending h c sc top)
-                      (subst (λ (p : List Goal). Run h first (Together (take c sc)) (Together W) p) (append-assoc gs rest (pending h c sc top)) (b .run)))));
+                        subst (λ (p : List Goal). Run h first (Together (take c sc′)) (Together (take c (drop c sc′))) ((gs′ ++ rest) ++ p))
+                        (sym (pending-same c top sc sc′ under h top (omega arith)))
+                        (same-taken h first (Together (take c sc)) (Together j) (Together (take c sc′)) (Together (take c (drop c sc′)))
+                        ((gs′ ++ rest) ++ pending h c sc top)
+                        (λ x y p. subst (λ (l : List ℕ). Together l x y) (sym same-front) p)
+                        (λ x y p. subst (λ (l : List ℕ). Together l x y) same-front p)
+                        (λ x y p. subst (λ (l : List ℕ). Together l x y) (sym new-walks) p)
+                        (λ x y p. subst (λ (l : List ℕ). Together l x y) new-walks p)
+                        (subst (λ (p : List Goal). Run h first (Together (take c sc)) (Together j) p) (sym (append-assoc gs′ rest (pending h c sc top)))
+                        (go first (rest ++ pending h c sc top)
+                        (subst (λ (p : List Goal). Run h first (Together (take c sc)) (Together W) p) (append-assoc gs rest (pending h c sc top)) (b .run)))));
                   };
             }
 
@@ -334,29 +332,29 @@ module _ (h : Heap) (c : ℕ) where
       popped n e gs w =
           record {
             shape =
-              record {
-                slots = sh .slots;
-                room = sh .room;
-                alike-rise = sh .alike-rise;
-                walks-rise = sh .walks-rise;
-                height = omega (arith, sh .height);
-                first-used = λ i l. sh .first-used i (omega arith);
-                second-used = λ i l. sh .second-used i (omega arith);
-              };
+                record {
+                  slots = sh .slots;
+                  room = sh .room;
+                  alike-rise = sh .alike-rise;
+                  walks-rise = sh .walks-rise;
+                  height = omega (arith, sh .height);
+                  first-used = λ i l. sh .first-used i (omega arith);
+                  second-used = λ i l. sh .second-used i (omega arith);
+                };
             gain = omega arith;
             walk-gain = omega arith;
             runs = λ first rest b.
                 record {
                   run =
-                    subst (λ (p : List Goal). Run h first (Together (take c sc)) (Together (take c (drop c sc))) p)
-                    (sym (append-assoc gs rest (pending h c sc n)))
-                    (reorder h first (Together (take c sc)) (Together (take c (drop c sc)))
-                    (rest ++ (gs ++ pending h c sc n))
-                    (gs ++ (rest ++ pending h c sc n))
-                    (swap-in rest gs (pending h c sc n))
-                    (swap-in gs rest (pending h c sc n))
-                    (subst (λ (p : List Goal). Run h first (Together (take c sc)) (Together (take c (drop c sc))) (rest ++ (p ++ pending h c sc n))) w
-                    (subst (λ (m : ℕ). Run h first (Together (take c sc)) (Together (take c (drop c sc))) (rest ++ pending h c sc m)) e (b .run))));
+                      subst (λ (p : List Goal). Run h first (Together (take c sc)) (Together (take c (drop c sc))) p)
+                      (sym (append-assoc gs rest (pending h c sc n)))
+                      (reorder h first (Together (take c sc)) (Together (take c (drop c sc)))
+                      (rest ++ (gs ++ pending h c sc n))
+                      (gs ++ (rest ++ pending h c sc n))
+                      (swap-in rest gs (pending h c sc n))
+                      (swap-in gs rest (pending h c sc n))
+                      (subst (λ (p : List Goal). Run h first (Together (take c sc)) (Together (take c (drop c sc))) (rest ++ (p ++ pending h c sc n))) w
+                      (subst (λ (m : ℕ). Run h first (Together (take c sc)) (Together (take c (drop c sc))) (rest ++ pending h c sc m)) e (b .run))));
                 };
           }
 
@@ -389,9 +387,9 @@ module _ (h : Heap) (c : ℕ) where
     clear-board g =
         record {
           run =
-            begin-with h g (Together (take c sc)) (Together (take c (drop c sc)))
-            (λ x y p. zeros-apart c x y (subst (λ (l : List ℕ). Together l x y) front-zero p))
-            (λ x y p. zeros-apart c x y (subst (λ (l : List ℕ). Together l x y) walks-zero p));
+              begin-with h g (Together (take c sc)) (Together (take c (drop c sc)))
+              (λ x y p. zeros-apart c x y (subst (λ (l : List ℕ). Together l x y) front-zero p))
+              (λ x y p. zeros-apart c x y (subst (λ (l : List ℕ). Together l x y) walks-zero p));
         }
 
   pub nothing-left : (sc : List ℕ) (v w : Value) → Board h (alike v w) c sc 0 [] → Equal h v w true

@@ -1,15 +1,15 @@
 -- Two slots joined in a part of the scratch, and put on the stack. Assumes nothing.
 use mathlib.Core.Path.{_≡_, refl, sym, ap, _∙_, subst}
 use mathlib.Core.Bool.{Bool, true, false, not}
-use mathlib.Core.List.{List, [], _∷_, _++_}
-use Prim.Native.Nat.{ℕ, _+_, _-_, _*_, _≤_, _<_}
+use mathlib.Core.List.{List, _++_}
+use Prim.Native.Nat.{ℕ, _+_, _-_, _*_, _<_}
 use native.Mathlib.Omega.{arith}
 use borrow.Author.Tests.{not-true, not-false}
 use lib.ListN.{length, take, drop, set, length-append, length-drop}
 use lib.Seq.{drop-drop}
-use Rattle.leaf_classes.specs.Classes.{Rises, weight, joined, Joins}
+use Rattle.leaf_classes.specs.Classes.{Rises, Joins}
 use Rattle.leaf_classes.proofs.Roots.{weight-most}
-use Rattle.heap_equal.specs.Boards.{Height, stacked, push-pair, CanPush, PairPushed, CanJoin, WalksJoined}
+use Rattle.heap_equal.specs.Boards.{stacked, push-pair, CanPush, PairPushed, CanJoin, WalksJoined}
 use Rattle.heap_equal.proofs.Scratch.{front-size, walks-size}
 
 module _ (c : ℕ) (sc : List ℕ) (top s t : ℕ) (pre : CanPush c sc top s t) where
@@ -59,7 +59,7 @@ module _ (c : ℕ) (sc : List ℕ) (s t : ℕ) (pre : CanJoin c sc s t) where
       record {
         answer-is = told′ .answer-is;
         scratch-is =
-          ap (λ (n : ℕ). take c sc ++ (l ++ drop n (drop c sc))) once
-          ∙ ap (λ (m : List ℕ). take c sc ++ (l ++ m)) (drop-drop c c sc)
-          ∙ ap (λ (m : List ℕ). take c sc ++ (m ++ drop (c + c) sc)) (told′ .links-are);
+            ap (λ (n : ℕ). take c sc ++ (l ++ drop n (drop c sc))) once
+            ∙ ap (λ (m : List ℕ). take c sc ++ (l ++ m)) (drop-drop c c sc)
+            ∙ ap (λ (m : List ℕ). take c sc ++ (m ++ drop (c + c) sc)) (told′ .links-are);
       }

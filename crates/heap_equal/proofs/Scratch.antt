@@ -1,14 +1,12 @@
 -- What is in which part of the scratch after a change of one part. Assumes nothing.
-use mathlib.Core.Path.{_≡_, refl, sym, ap, _∙_, subst}
-use mathlib.Core.Bool.{Bool, true, false}
-use mathlib.Core.List.{List, [], _∷_, _++_}
+use mathlib.Core.Path.{_≡_, refl, sym, ap, _∙_}
+use mathlib.Core.List.{List, _++_}
 use Prim.Native.Nat.{ℕ, zero, suc, _+_, _-_, _*_, _≤_, _<_}
 use native.Mathlib.Omega.{arith}
 use native.Mathlib.Numerals.{add-one}
-use lib.ListN.{length, getD, take, drop, set, length-set, length-append, length-take, length-drop}
-use lib.Seq.{length-take-le, take-at, drop-at, getD-drop, getD-set-same, getD-set-other, take-set-le, drop-set-add, drop-drop, take-append-le, drop-append-le}
+use lib.ListN.{length, getD, take, drop, set, length-set, length-append, length-drop}
+use lib.Seq.{length-take-le, take-at, drop-at, getD-drop, getD-set-same, getD-set-other, take-set-le, drop-set-add, drop-drop}
 use Rattle.rules.specs.Heap.{Heap, in-use}
-use Rattle.rules.specs.Equal.{Goal}
 use Rattle.leaf_classes.specs.Classes.{Rises, weight}
 use Rattle.heap_equal.specs.Parts.{first-of, second-of, wanted, pending}
 use Rattle.heap_equal.specs.Boards.{Shape}

@@ -1,8 +1,8 @@
 -- What the comparison reads of sound lists: rows of slots in use, cells, texts and elements. Document 01: "every slot that an
 -- Allocated cell or its elements name is Allocated". Assumes nothing.
 use mathlib.Core.Path.{_≡_, refl, sym, ap, _∙_, subst}
-use mathlib.Core.Bool.{Bool, true, false}
-use mathlib.Core.List.{List, [], _∷_}
+use mathlib.Core.Bool.{Bool, true}
+use mathlib.Core.List.{_∷_}
 use Prim.Native.Nat.{ℕ, zero, suc, _+_, _*_, _≤_, _<_}
 use native.Mathlib.Omega.{arith}
 use native.Mathlib.Numerals.{add-one}
@@ -13,11 +13,11 @@ use lib.ListN.{length, getD, take, drop}
 use lib.Seq.{drop-cons}
 use Rattle.laws.proofs.Tests.{both-left, both-right}
 use Rattle.laws.proofs.Pointwise.{length-part}
-use Rattle.rules.specs.Cells.{undefined, Value, slot, scalar, Block, block, Cell, plain, pair, vector}
+use Rattle.rules.specs.Cells.{undefined, Value, slot, scalar, Block, block, Cell, pair, vector}
 use Rattle.rules.specs.Heap.{Heap, capacity, cell-at, in-use, elements-of}
 use Rattle.rules.specs.Layout.{Lent, heap-of, value-from, layout-rules}
 use Rattle.rules.specs.Sound.{value-named, vector-block, lies-in, sound, sound-rules}
-use Rattle.rules.specs.Equal.{Goal, alike, element-by-element, eqv-cells, equal-rules}
+use Rattle.rules.specs.Equal.{alike, element-by-element, eqv-cells, equal-rules}
 use Rattle.rules.specs.Calls.{value-in-use, cell-in-use, call-rules}
 use Rattle.rules.proofs.SoundLaws.{clauses, bounds}
 use Rattle.rules.proofs.Good.{Good, element-at, used-slot}

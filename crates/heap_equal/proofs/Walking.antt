@@ -1,17 +1,16 @@
 -- One step of the pair walk, by what the code finds of the two cells. Assumes nothing.
 use mathlib.Core.Path.{_≡_, refl, sym, ap, _∙_, subst}
 use mathlib.Core.Bool.{Bool, true, false, not}
-use mathlib.Core.List.{List, [], _∷_, _++_}
+use mathlib.Core.List.{List, [], _∷_}
 use Prim.Native.Nat.{ℕ, _+_, _*_, _≤_, _<_}
 use native.Mathlib.Omega.{arith}
 use borrow.Author.Tests.{not-true, not-false}
-use lib.ListN.{length, take, drop}
+use lib.ListN.{length}
 use Rattle.rules.specs.Cells.{slot, Cell, pair}
 use Rattle.rules.specs.Heap.{Heap, cell-at}
 use Rattle.rules.specs.Layout.{Lent, heap-of}
 use Rattle.rules.specs.Equal.{Goal, alike, walks, needs, eqv-cells, holds-if, walk-step, step, equal-rules}
 use Rattle.equal_laws.proofs.Steps.{step-walks}
-use Rattle.leaf_classes.specs.Classes.{weight}
 use Rattle.leaf_cells.specs.Cells.{loaded}
 use Rattle.heap_eqv.specs.Eqv.{holding, Within, Comparable}
 use Rattle.heap_equal.specs.declared.Parts.{Parts}
@@ -20,7 +19,7 @@ use Rattle.heap_equal.specs.declared.Next.{Next}
 use Rattle.heap_equal.specs.declared.Next.the-variants as next
 use Rattle.heap_equal.specs.declared.Walked.the-variants as walked
 use Rattle.heap_equal.specs.Parts.{parted}
-use Rattle.heap_equal.specs.Boards.{CanJoin, WalksJoined, Ready, Moved, Refuted, UsedSlots, NextTold, GoesOn, WalkTold}
+use Rattle.heap_equal.specs.Boards.{CanJoin, WalksJoined, Ready, Moved, UsedSlots, NextTold, WalkTold}
 use Rattle.heap_equal.proofs.CellParts.{pairs-are, walk-ends}
 use Rattle.heap_equal.proofs.SoundLists.{slots-comparable, slot-below, rows-inside, parts-loaded, text-inside, cells-told, car-used, cdr-used}
 use Rattle.heap_equal.proofs.Moves.{moved-then, moved-before, refuted-then, refuted-before, step-fails, needless, walk-known, walk-taken, walk-weight}
@@ -114,15 +113,15 @@ module _ (l : Lent) (c : ℕ) (sc : List ℕ) (top s t : ℕ) (pre : Ready l c s
               let m : Moved h c (alike (slot a) (slot b) ∷ []) sc′ top [] sc″ k = subst (λ (z : Next). NextTold h c (alike (slot a) (slot b) ∷ []) sc′ top sc″ z) q cars-told in
               record {
                 moved =
-                  moved-then h c (walks s t ∷ []) gs (walks d e ∷ []) sc sc′ sc″ top top k taken
-                  (moved-before h c (alike (slot a) (slot b) ∷ []) [] (walks d e ∷ []) sc′ sc″ top k m);
+                    moved-then h c (walks s t ∷ []) gs (walks d e ∷ []) sc sc′ sc″ top top k taken
+                    (moved-before h c (alike (slot a) (slot b) ∷ []) [] (walks d e ∷ []) sc′ sc″ top k m);
                 used = cdrs;
                 more-walked =
-                  omega (
-                    arith,
-                    walk-weight h c sc top (pre .0 .shape) s t s-in t-in r sc′ told (not-false r n),
-                    m .walk-gain,
-                  );
+                    omega (
+                      arith,
+                      walk-weight h c sc top (pre .0 .shape) s t s-in t-in r sc′ told (not-false r n),
+                      m .walk-gain,
+                    );
               }
 
           pub walk-stops : x ≡ next.Differs → WalkTold h c s t sc top sc″ walked.Differs

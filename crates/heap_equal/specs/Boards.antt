@@ -4,8 +4,8 @@ use mathlib.Core.Path.{_≡_}
 use mathlib.Core.Bool.{Bool, true, false}
 use mathlib.Core.List.{List, [], _∷_, _++_}
 use Prim.Native.Nat.{ℕ, _+_, _*_, _≤_, _<_}
-use lib.ListN.{length, getD, take, drop, set}
-use Rattle.laws.specs.Basics.{choose, zeros}
+use lib.ListN.{length, take, drop, set}
+use Rattle.laws.specs.Basics.{zeros}
 use Rattle.rules.specs.Numbers.{scratch-words}
 use Rattle.rules.specs.Cells.{Value}
 use Rattle.rules.specs.Heap.{Heap, capacity, in-use}
@@ -14,7 +14,7 @@ use Rattle.rules.specs.Sound.{sound}
 use Rattle.rules.specs.Equal.{Goal, alike, walks, Fails, Equal}
 use Rattle.rules.specs.Calls.{value-in-use, cleared}
 use Rattle.equal_laws.specs.Runs.{Run}
-use Rattle.leaf_classes.specs.Classes.{Together, Rises, weight, Joined, joined}
+use Rattle.leaf_classes.specs.Classes.{Together, Rises, weight, joined}
 use Rattle.leaf_cells.specs.Elements.{loaded-element}
 use Rattle.heap_equal.specs.declared.Next.{Next}
 use Rattle.heap_equal.specs.declared.Next.the-variants as next

@@ -1,12 +1,11 @@
 -- What two cells are compared by, and the goals that two slots on the stack stand for. Document 01, "Equality": "two pairs, by
 -- the pair walk; two vectors of one length, element by element". Assumes nothing.
-use mathlib.Core.Bool.{Bool, true, false}
 use mathlib.Core.List.{List, [], _∷_, _++_}
 use Prim.Native.Nat.{ℕ, zero, suc, _+_, _*_}
 use lib.Dec.{eqb}
 use lib.ListN.{getD}
 use Rattle.laws.specs.Basics.{choose}
-use Rattle.rules.specs.Cells.{Value, slot, Block, Cell, plain, pair, symbol, string, vector}
+use Rattle.rules.specs.Cells.{Block, Cell, plain, pair, symbol, string, vector}
 use Rattle.rules.specs.Heap.{Heap, cell-at}
 use Rattle.rules.specs.Equal.{Goal, alike, Step, fails, needs, slots-step}
 use Rattle.leaf_cells.specs.Elements.{loaded-element}

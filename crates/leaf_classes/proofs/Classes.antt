@@ -4,17 +4,17 @@ use mathlib.Core.Path.{_≡_, refl, sym, ap, _∙_, subst}
 use mathlib.Core.Bool.{Bool, true, false, not}
 use mathlib.Core.List.{List}
 use mathlib.Core.Logic.{_⊎_, inl, inr, ⊎-elim}
-use Prim.Native.Nat.{ℕ, zero, suc, _+_, _-_, _≤_, _<_}
+use Prim.Native.Nat.{ℕ, _+_, _-_, _≤_, _<_}
 use native.Mathlib.Omega.{arith}
 use native.Mathlib.Decide.{ℕ-discrete}
-use borrow.Author.Tests.{ltb-true, ltb-false, lt-ltb, le-ltb, eqb-true, eqb-false, eq-eqb, ne-eqb}
+use borrow.Author.Tests.{ltb-true, ltb-false, eqb-true, eq-eqb, ne-eqb}
 use lib.Dec.{eqb, ltb}
 use lib.ListN.{length, getD, set, length-set}
-use Rattle.laws.specs.Basics.{choose, both, zeros}
+use Rattle.laws.specs.Basics.{choose, zeros}
 use Rattle.laws.proofs.Tests.{true≢false, both-left, both-right, both-true}
 use Rattle.laws.proofs.Lists.{getD-zeros}
 use Rattle.equal_laws.specs.Runs.{Widened}
-use Rattle.leaf_classes.specs.Classes.{met, link, root-of, together, Together, Rises, slot-weight, weight, found, meeting, tied, Joined, joined, class-rules}
+use Rattle.leaf_classes.specs.Classes.{met, link, root-of, together, Together, Rises, weight, found, meeting, tied, joined}
 use Rattle.leaf_classes.proofs.Roots.{met-below, root-here, root-up, root-met, root-fixed, regrouped, link-here, met-here, link-other, met-other, set-rises, set-weight, weight-unmet, weight-root, weight-linked}
 use Rattle.leaf_classes.proofs.Finding.{Regrouped, regrouped-then, Right, found-right, regrouped-together}
 
@@ -54,8 +54,6 @@ record Meets (l : List ℕ) (s : ℕ) (m : List ℕ) : Type 0 where
   kept : (y : ℕ) → met l y ≡ true → met m y ≡ true
   roots : (y : ℕ) → met l y ≡ true → root-of m y ≡ root-of l y
   least : (x y : ℕ) → together m x y ≡ true → (together l x y ≡ true) ⊎ ((x ≡ s) × (y ≡ s))
-  others : (y : ℕ) → met m y ≡ true → (met l y ≡ true) ⊎ (y ≡ s)
-  alone : met l s ≡ false → root-of m s ≡ s
   weight-kept : weight l ≤ weight m
   weight-more : met l s ≡ false → weight l + 1 ≤ weight m
 
@@ -133,8 +131,6 @@ module _ (l : List ℕ) (rises : Rises l) (s : ℕ) (inside : s < length l) wher
           kept = kept-now;
           roots = roots-now;
           least = least-now;
-          others = others-now;
-          alone = λ _. alone-now;
           weight-kept = omega (arith, weight-now);
           weight-more = λ _. weight-now;
         }
@@ -148,8 +144,6 @@ module _ (l : List ℕ) (rises : Rises l) (s : ℕ) (inside : s < length l) wher
         kept = λ y my. my;
         roots = λ y my. refl;
         least = λ x y e. inl e;
-        others = λ y my. inl my;
-        alone = λ u. absurd (true≢false (sym m ∙ u));
         weight-kept = omega arith;
         weight-more = λ u. absurd (true≢false (sym m ∙ u));
       }
@@ -161,14 +155,6 @@ module _ (l : List ℕ) (rises : Rises l) (s : ℕ) (inside : s < length l) wher
       at : (b : Bool) → met l s ≡ b → Meets l s (choose b l (set l s (s + 1)))
       at true e = met-old e
       at false e = met-new e
-
-pub meeting-size : (l : List ℕ) (s : ℕ) → length (meeting l s) ≡ length l
-unfolding meeting
-meeting-size l s = at (met l s)
-  where
-    at : (b : Bool) → length (choose b l (set l s (s + 1))) ≡ length l
-    at true = refl
-    at false = length-set l s (s + 1)
 
 -- ---- two roots tied
 
@@ -291,18 +277,18 @@ module _ (l : List ℕ) (rises : Rises l) (a b : ℕ) (ma : met l a ≡ true) (m
         rising = tied-rises;
         kept = tied-kept;
         adds =
-          made-together up-to a b (tied-met a ∙ ma) (tied-met b ∙ mb)
-          (tied-roots a ma
-          ∙ moved-a (root-of l a) root-a
-          ∙ sym (tied-roots b mb ∙ ap moved root-b ∙ moved-not b (λ e. omega arith)));
+            made-together up-to a b (tied-met a ∙ ma) (tied-met b ∙ mb)
+            (tied-roots a ma
+            ∙ moved-a (root-of l a) root-a
+            ∙ sym (tied-roots b mb ∙ ap moved root-b ∙ moved-not b (λ e. omega arith)));
         least = tied-least;
         weight-more =
-          omega (
-            arith,
-            set-weight l a (b + 1) a-inside,
-            weight-root l a ma ra,
-            weight-linked up-to a (tied-met a ∙ ma) (λ e. omega (arith, sym tied-link ∙ e)),
-          );
+            omega (
+              arith,
+              set-weight l a (b + 1) a-inside,
+              weight-root l a ma ra,
+              weight-linked up-to a (tied-met a ∙ ma) (λ e. omega (arith, sym tied-link ∙ e)),
+            );
       }
 
 together-sym : (l : List ℕ) (x y : ℕ) → together l x y ≡ true → together l y x ≡ true
@@ -515,9 +501,6 @@ module _ (l : List ℕ) (rises : Rises l) (s t : ℕ) (s-inside : s < length l) 
         (λ st. inr (refl, st .1 ∙ sym (st .0)))
         (second-met .least s t (made-together m₂ s t s-met t-met (roots-one one-root))))
 
-    self : (x y : ℕ) → (x ≡ s) × (y ≡ s) → together l x y ≡ true
-    self x y e = made-together l x y (ap (met l) (e .0) ∙ s-was-met) (ap (met l) (e .1) ∙ s-was-met) (ap (root-of l) (e .0 ∙ sym (e .1)))
-
     pub join-same : (x y : ℕ) → together (joined l s t .links) x y ≡ true → together l x y ≡ true
     join-same x y e =
         let q = together-parts l s t join-no in
@@ -542,32 +525,33 @@ module _ (l : List ℕ) (rises : Rises l) (s t : ℕ) (s-inside : s < length l) 
           record {
             keeps = kept-so-far;
             adds =
-              made-together g₂ s t (g-met s s-met) (g-met t t-met)
-              (g-roots s s-met ∙ roots-one e ∙ sym (g-roots t t-met));
+                made-together g₂ s t (g-met s s-met) (g-met t t-met)
+                (g-roots s s-met ∙ roots-one e ∙ sym (g-roots t t-met));
             least =
-              λ Q back on was st.
-                  least-so-far Q was (on s t s st (back s t st)) (on t s t (back s t st) st);
+                λ Q back on was st.
+                least-so-far Q was (on s t s st (back s t st)) (on t s t (back s t st) st);
           }
+
       when-two : (a ≡ b → ⊥) → Widened (Together l) (Together (tied g₂ a b)) s t
       when-two ne =
           let k = all-tied ne in
           record {
             keeps = λ x y e. k .kept x y (kept-so-far x y e);
             adds =
-              let p = together-parts (tied g₂ a b) s a (k .kept s a s-with-a) in
-              let q = together-parts (tied g₂ a b) t b (k .kept t b t-with-b) in
-              let r = together-parts (tied g₂ a b) a b (k .adds) in
-              made-together (tied g₂ a b) s t (p .0) (q .0) (p .1 .1 ∙ r .1 .1 ∙ sym (q .1 .1));
+                let p = together-parts (tied g₂ a b) s a (k .kept s a s-with-a) in
+                let q = together-parts (tied g₂ a b) t b (k .kept t b t-with-b) in
+                let r = together-parts (tied g₂ a b) a b (k .adds) in
+                made-together (tied g₂ a b) s t (p .0) (q .0) (p .1 .1 ∙ r .1 .1 ∙ sym (q .1 .1));
             least =
-              λ Q back on was st x y e.
-                  let so-far = least-so-far Q was (on s t s st (back s t st)) (on t s t (back s t st) st) in
-                  let sa = so-far s a s-with-a in
-                  let tb = so-far t b t-with-b in
-                  ⊎-elim (so-far x y)
-                  (⊎-elim
-                  (λ p. on x a y (so-far x a (p .0)) (on a s y (back s a sa) (on s t y st (on t b y tb (so-far b y (p .1))))))
-                  (λ p. on x b y (so-far x b (p .0)) (on b t y (back t b tb) (on t s y (back s t st) (on s a y sa (so-far a y (p .1)))))))
-                  (k .least x y e);
+                λ Q back on was st x y e.
+                let so-far = least-so-far Q was (on s t s st (back s t st)) (on t s t (back s t st) st) in
+                let sa = so-far s a s-with-a in
+                let tb = so-far t b t-with-b in
+                ⊎-elim (so-far x y)
+                (⊎-elim
+                (λ p. on x a y (so-far x a (p .0)) (on a s y (back s a sa) (on s t y st (on t b y tb (so-far b y (p .1))))))
+                (λ p. on x b y (so-far x b (p .0)) (on b t y (back t b tb) (on t s y (back s t st) (on s a y sa (so-far a y (p .1)))))))
+                (k .least x y e);
           }
 
   pub join-light : weight l ≤ weight (joined l s t .links)

@@ -1,16 +1,16 @@
 -- Finding a root with halving changes no root, not who is met, and no weight. Assumes nothing.
-use mathlib.Core.Path.{_≡_, refl, sym, ap, _∙_, subst}
+use mathlib.Core.Path.{_≡_, refl, sym, ap, _∙_}
 use mathlib.Core.Bool.{Bool, true, false}
 use mathlib.Core.List.{List}
-use Prim.Native.Nat.{ℕ, zero, suc, _+_, _-_, _≤_, _<_}
+use Prim.Native.Nat.{ℕ, zero, suc, _+_, _≤_, _<_}
 use native.Mathlib.Omega.{arith}
 use native.Mathlib.Decide.{ℕ-discrete}
-use borrow.Author.Tests.{ltb-true, ltb-false, eqb-true, eqb-false, eq-eqb, ne-eqb}
-use lib.Dec.{eqb, ltb}
+use borrow.Author.Tests.{ltb-true, eqb-true, eqb-false}
+use lib.Dec.{eqb}
 use lib.ListN.{length, getD, set, length-set}
-use Rattle.laws.specs.Basics.{choose, both}
-use Rattle.leaf_classes.specs.Classes.{met, link, root-of, together, Rises, slot-weight, weight, Found, finding, halved, found, class-rules}
-use Rattle.leaf_classes.proofs.Roots.{met-below, root-here, root-up, regrouped, link-here, met-here, link-other, met-other, set-rises, set-weight, weight-linked}
+use Rattle.laws.specs.Basics.{both}
+use Rattle.leaf_classes.specs.Classes.{met, link, root-of, together, Rises, weight, Found, finding, halved, found, class-rules}
+use Rattle.leaf_classes.proofs.Roots.{met-below, root-here, higher, root-up, regrouped, link-here, met-here, link-other, met-other, set-rises, set-weight, weight-linked}
 
 -- the same classes in other links
 pub record Regrouped (l l′ : List ℕ) : Type 0 where
@@ -37,14 +37,6 @@ regrouped-then p q =
 -- ---- one link
 
 module _ (l : List ℕ) (rises : Rises l) (s : ℕ) (m : met l s ≡ true) where
-  -- a slot that is no root links higher
-  pub higher : (link l s ≡ s → ⊥) → s < link l s
-  higher ne = at (ltb s (link l s)) refl
-    where
-      at : (b : Bool) → ltb s (link l s) ≡ b → s < link l s
-      at true e = ltb-true s (link l s) e
-      at false e = absurd (ne (omega (arith, ltb-false s (link l s) e, rises .up s m)))
-
   module _ (ne : link l s ≡ s → ⊥) where
     abbrev p : ℕ
     p = link l s
@@ -64,7 +56,7 @@ module _ (l : List ℕ) (rises : Rises l) (s : ℕ) (m : met l s ≡ true) where
     link-now = link-here l s (getD l p 0) inside
 
     above : s < link l p
-    above = omega (arith, higher ne, rises .up p (rises .known s m))
+    above = omega (arith, higher l rises s m ne, rises .up p (rises .known s m))
 
     met-now : (y : ℕ) → met l′ y ≡ met l y
     met-now y =
@@ -115,7 +107,7 @@ module _ (l : List ℕ) (rises : Rises l) (s : ℕ) (m : met l s ≡ true) where
           rising = rising-now;
           met-same = met-now;
           roots-same =
-            regrouped l l′ rises rising-now (λ x. x) (λ y my. met-now y ∙ my) inside-now ends-now passes-now;
+              regrouped l l′ rises rising-now (λ x. x) (λ y my. met-now y ∙ my) inside-now ends-now passes-now;
           weight-same = weight-now;
         }
 
@@ -141,15 +133,15 @@ halved-right (suc n) l s r m h = at (halved-right n) (eqb (link l s) s) refl
         let g = one-halved l r s m ne in
         let k = r .known s m in
         let rest =
-              further (set l s (getD l (link l s) 0)) (link l (link l s)) (g .rising)
-              (g .met-same (link l (link l s)) ∙ r .known (link l s) k)
-              (omega (arith, g .size, higher l r s m ne, r .up (link l s) k)) in
+        further (set l s (getD l (link l s) 0)) (link l (link l s)) (g .rising)
+        (g .met-same (link l (link l s)) ∙ r .known (link l s) k)
+        (omega (arith, g .size, higher l r s m ne, r .up (link l s) k)) in
         record {
           root-right =
-            rest .root-right
-            ∙ g .roots-same (link l (link l s)) (r .known (link l s) k)
-            ∙ root-up l r (link l s) k
-            ∙ root-up l r s m;
+              rest .root-right
+              ∙ g .roots-same (link l (link l s)) (r .known (link l s) k)
+              ∙ root-up l r (link l s) k
+              ∙ root-up l r s m;
           links-right = regrouped-then g (rest .links-right);
         }
 

@@ -1,6 +1,6 @@
 -- The steps of a join, one after the other, come to `joined`. Assumes nothing.
-use mathlib.Core.Path.{_≡_, refl, sym, ap, _∙_, subst}
-use mathlib.Core.Bool.{Bool, true, false, not}
+use mathlib.Core.Path.{_≡_, sym, ap, _∙_, subst}
+use mathlib.Core.Bool.{Bool, true, not}
 use mathlib.Core.List.{List}
 use Prim.Native.Nat.{ℕ, _+_, _≤_, _<_}
 use native.Mathlib.Omega.{arith}
@@ -8,7 +8,7 @@ use borrow.Author.Tests.{lt-ltb, le-ltb, eq-eqb, ne-eqb}
 use lib.Dec.{eqb, ltb}
 use lib.ListN.{length, set}
 use Rattle.laws.specs.Basics.{choose}
-use Rattle.leaf_classes.specs.Classes.{met, Rises, Found, found, Finds, meeting, tied, joined, Joins, class-rules}
+use Rattle.leaf_classes.specs.Classes.{met, Rises, Found, found, Finds, meeting, tied, joined, Joins}
 use Rattle.leaf_classes.proofs.Classes.{first-ready, second-ready, roots-inside}
 use Rattle.leaf_classes.proofs.Ways.{Meeting}
 

@@ -1,7 +1,7 @@
 -- Links that rise end at a root. What a change of one word does to who is met, to the roots and to the weight. Assumes nothing.
-use mathlib.Core.Path.{_≡_, refl, sym, ap, _∙_, subst}
+use mathlib.Core.Path.{_≡_, refl, sym, ap, _∙_}
 use mathlib.Core.Bool.{Bool, true, false}
-use mathlib.Core.List.{List, [], _∷_}
+use mathlib.Core.List.{List}
 use Prim.Native.Nat.{ℕ, zero, suc, _+_, _*_, _-_, _≤_, _<_}
 use native.Mathlib.Omega.{arith}
 use native.Mathlib.Decide.{ℕ-discrete}
@@ -39,21 +39,22 @@ module _ (l : List ℕ) where
   root-here s e = stays (length l) s e
 
   module _ (rises : Rises l) where
+    -- a slot that is no root links higher
+    pub higher : (s : ℕ) → met l s ≡ true → (link l s ≡ s → ⊥) → s < link l s
+    higher s m ne = at (ltb s (link l s)) refl
+      where
+        at : (b : Bool) → ltb s (link l s) ≡ b → s < link l s
+        at true e = ltb-true s (link l s) e
+        at false e = absurd (ne (omega (arith, ltb-false s (link l s) e, rises .up s m)))
+
     fixed : (n s : ℕ) → met l s ≡ true → length l ≤ s + n → link l (follow n l s) ≡ follow n l s
     unfolding class-rules
     fixed zero s m h = absurd (omega (arith, met-below s m))
     fixed (suc n) s m h =
         elim (ℕ-discrete (link l s) s) [
           | yes e ↦ let q = stays (suc n) s e in ap (link l) q ∙ e ∙ sym q
-          | no ne ↦ fixed n (link l s) (rises .known s m) (lower ne (rises .up s m))
+          | no ne ↦ fixed n (link l s) (rises .known s m) (omega (arith, higher s m ne))
         ]
-      where
-        lower : (link l s ≡ s → ⊥) → s ≤ link l s → length l ≤ link l s + n
-        lower ne u = at (ltb s (link l s)) refl
-          where
-            at : (b : Bool) → ltb s (link l s) ≡ b → length l ≤ link l s + n
-            at true e = omega (arith, ltb-true s (link l s) e)
-            at false e = absurd (ne (omega (arith, ltb-false s (link l s) e)))
 
     module _ (s : ℕ) (m : met l s ≡ true) where
       pub root-fixed : link l (root-of l s) ≡ root-of l s
@@ -88,16 +89,9 @@ module _ (l l′ : List ℕ) (rises : Rises l) (rises′ : Rises l′) (f : ℕ 
         | yes e ↦ root-here l′ y e ∙ sym (ends y m e)
         | no ne ↦
             sym (root-up l′ rises′ y (kept y m))
-            ∙ regrouped-by n (link l′ y) (inside y m) (lower ne (rises′ .up y (kept y m)))
+            ∙ regrouped-by n (link l′ y) (inside y m) (omega (arith, higher l′ rises′ y (kept y m) ne))
             ∙ passes y m
       ]
-    where
-      lower : (link l′ y ≡ y → ⊥) → y ≤ link l′ y → length l′ ≤ link l′ y + n
-      lower ne u = at (ltb y (link l′ y)) refl
-        where
-          at : (b : Bool) → ltb y (link l′ y) ≡ b → length l′ ≤ link l′ y + n
-          at true e = omega (arith, ltb-true y (link l′ y) e)
-          at false e = absurd (ne (omega (arith, ltb-false y (link l′ y) e)))
 
   pub regrouped : (y : ℕ) → met l y ≡ true → root-of l′ y ≡ f (root-of l y)
   regrouped y m = regrouped-by (length l′) y m (omega arith)
@@ -150,6 +144,7 @@ module _ (l : List ℕ) (s w : ℕ) (inside : s < length l) where
             | yes e ↦ omega (arith, ap (link (set l s w)) e, link-here)
             | no ne ↦ omega (arith, link-other y ne, r .up y (sym (met-other y ne) ∙ m))
           ]
+
       known-at : (y : ℕ) → met (set l s w) y ≡ true → met (set l s w) (link (set l s w) y) ≡ true
       known-at y m =
           elim (ℕ-discrete y s) [

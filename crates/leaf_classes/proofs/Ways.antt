@@ -5,13 +5,11 @@ use mathlib.Core.List.{List}
 use Prim.Native.Nat.{ℕ, zero, suc, _+_, _-_, _≤_, _<_}
 use native.Mathlib.Omega.{arith}
 use borrow.Author.Tests.{ltb-true, lt-ltb, le-ltb, eq-eqb, ne-eqb}
-use lib.Dec.{eqb}
 use lib.ListN.{length, getD, set}
 use Rattle.laws.specs.Basics.{choose}
-use Rattle.leaf_classes.specs.Classes.{met, link, Rises, Found, finding, halved, found, Finds, meeting, class-rules}
-use Rattle.leaf_classes.proofs.Roots.{met-below}
-use Rattle.leaf_classes.proofs.Finding.{Regrouped, one-halved, higher}
-use Rattle.leaf_classes.proofs.Classes.{meeting-size}
+use Rattle.leaf_classes.specs.Classes.{met, link, Rises, Found, finding, halved, Finds, meeting, class-rules}
+use Rattle.leaf_classes.proofs.Roots.{met-below, higher}
+use Rattle.leaf_classes.proofs.Finding.{Regrouped, one-halved}
 
 pub record Walking (l₀ : List ℕ) (s : ℕ) (l : List ℕ) (x p : ℕ) : Type 0 where
   pub size : length l ≡ length l₀
@@ -123,6 +121,3 @@ module _ (l : List ℕ) (s : ℕ) where
   unfolding class-rules
   met-first p =
       let e = sym (le-ltb 0 (getD l s 0) p) in (ap not e, ap (λ (b : Bool). choose b l (set l s (s + 1))) e)
-
-  pub met-told : (r : Bool) (l′ : List ℕ) → Meeting r l′ → length l′ ≡ length l
-  met-told r l′ e = ap length (e .1) ∙ meeting-size l s

@@ -1,7 +1,6 @@
-// Classes of slots, found and joined in nearly constant time (compare.rs compares each two slots anew, and does not end where they
-// lie on cycles). Document 01, "Equality": "The answer is false exactly when a finite chain of such steps fails": so what was
-// taken as equal once is not asked again. A word for each slot: 0 not met, else one more than its link, which is the slot
-// itself or a higher one of its class.
+// Classes of slots, in place of the set of visited pairs of compare.rs: a class holds what was taken as equal, and what follows
+// from it. Document 01, "Equality": "The answer is false exactly when a finite chain of such steps fails." A word for each slot:
+// 0 not met, else one more than its link, which is the slot itself (a root) or a higher one of its class.
 ghost use mathlib.Core.Path.{_≡_};
 ghost use mathlib.Core.Bool.{true, not};
 ghost use Prim.Native.Nat.{_<_};
@@ -26,7 +25,7 @@ pub fn find(links: &mut [u64], s: usize) -> usize
 }
 
 // A slot that is not met yet becomes a class of its own; says whether it did.
-pub fn meet(links: &mut [u64], s: usize) -> bool
+fn meet(links: &mut [u64], s: usize) -> bool
     requires { ⌜ s < length (now links) ⌝ }
     ensures { λ r. ⌜ (r ≡ not (met (now (links .entry)) s)) × (now (links .exit) ≡ meeting (now (links .entry)) s) ⌝ }
 {

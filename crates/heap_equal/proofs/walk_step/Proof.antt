@@ -1,5 +1,5 @@
 -- `heap_equal::walk_step`: two cells that are not both pairs end the walk; two pairs that were met do so too. Assumes nothing.
-use mathlib.Core.Path.{ap, _∙_}
+use mathlib.Core.Path.{ap}
 use denote.Enum.Declared.{tagOf}
 use Rattle.leaf_cells.specs.Cells.{cell-of}
 use Rattle.heap_sound_rows.specs.Rows.{lists}

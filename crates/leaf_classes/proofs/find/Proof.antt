@@ -3,7 +3,6 @@ use Prim.Native.Nat.{_-_}
 use native.Mathlib.Omega.{arith}
 use lib.ListN.{length}
 use Rattle.leaf_classes.proofs.Ways.{Walking, word-positive, slot-inside, begins, next-met, next-inside, further, further-inside, further-word, goes-on, ends}
-use borrow.Author.Needs.{needs}
 use Rattle.leaf_classes.proofs.find.Statement.{statement}
 use Rattle.leaf_classes.proofs.find.Tie as tie
 
