@@ -1,5 +1,6 @@
 -- What the comparison keeps in the scratch, and what each of its functions does to it: the run is that of the goals at hand and
--- of those that the pairs on the stack stand for. Assumes nothing.
+-- of those that the pairs on the stack stand for. Document 01, "Equality": "The answer is false exactly when a finite chain of
+-- such steps fails"; "On return scratch is all zero". Assumes nothing.
 use mathlib.Core.Path.{_≡_}
 use mathlib.Core.Bool.{Bool, true, false}
 use mathlib.Core.List.{List, [], _∷_, _++_}

@@ -1,5 +1,6 @@
 -- Classes of slots in a list with a word for each: 0 not met, else one more than its link, the slot itself (a root) or a higher
--- one of its class. Two slots are together where both are met and lead to one root. Assumes nothing.
+-- one of its class. Two slots are together where both are met and lead to one root: what was taken as equal is not asked again,
+-- for document 01's "The answer is false exactly when a finite chain of such steps fails." Assumes nothing.
 use mathlib.Core.Path.{_≡_}
 use mathlib.Core.Bool.{Bool, true, false, not}
 use mathlib.Core.List.{List}
