@@ -1,16 +1,24 @@
--- The promise of `eqv` determines its answer: two that both meet it on the same lists and numbers at entry are the same, refusals
--- too. The lists are lent only to read. Document 01, "Each public call's promise determines the answer and every lent byte
--- afterwards". Assumes nothing.
+-- Each promise determines what the door does: two outcomes that both meet it on the same lists and numbers at entry are the same
+-- answer and the same scratch, refusals too; `equal` has one answer. The heap's lists are lent only to read. Document 01, "Each
+-- public call's promise determines the answer and every lent byte afterwards". Assumes nothing.
 use mathlib.Core.Path.{_≡_, refl, sym, ap, _∙_}
-use mathlib.Core.Bool.{Bool}
+use mathlib.Core.Bool.{Bool, true, false}
+use mathlib.Core.List.{List, [], _∷_}
 use Prim.Native.Nat.{ℕ}
-use Rattle.rules.specs.Refusals.{Refusal, bad-setup, unsound, short-scratch, malformed, over-limit, early-label, no-such-slot, wrong-cell, no-slots, no-room, short-output, Answer, accepted, refused}
-use Rattle.rules.specs.Layout.{Lent}
-use Rattle.rules.specs.Calls.{eqv-call}
+use Rattle.rules.specs.Refusals.{Refusal, bad-setup, unsound, short-scratch, malformed, over-limit, early-label, no-such-slot, wrong-cell, no-slots, no-room, short-output, Answer, accepted, refused, Test, _⇒_, unless, refusals}
+use Rattle.rules.specs.Cells.{Value}
+use Rattle.rules.specs.Heap.{Heap}
+use Rattle.rules.specs.Layout.{Lent, heap-of}
+use Rattle.rules.specs.Calls.{eqv-call, Equal-left, Equal-values, Equal-call, given-value, of-answer}
+use Rattle.equal_laws.proofs.Levels.{equal-one}
 use Rattle.heap_given.proofs.FaultLaws.{from-fault, fault-back}
 use Rattle.doors_equal.specs.declared.EqvAnswer.{EqvAnswer}
 use Rattle.doors_equal.specs.declared.EqvAnswer.the-variants as eqvs
-use Rattle.doors_equal.specs.Answers.{eqv-answer}
+use Rattle.doors_equal.specs.declared.EqualAnswer.{EqualAnswer}
+use Rattle.doors_equal.specs.declared.EqualAnswer.the-variants as equals
+use Rattle.doors_equal.specs.Answers.{eqv-answer, equal-answer, equal-left}
+
+-- ---- eqv
 
 -- of the refusals that `eqv` does not give none is asked for
 refused-eqv : Refusal → EqvAnswer
@@ -41,3 +49,69 @@ eqv-back eqvs.NoSuchSlot = refl
 
 pub eqv-determined : (l : Lent) (kind a kind′ a′ : ℕ) (r r' : EqvAnswer) → eqv-answer r ≡ eqv-call l kind a kind′ a′ → eqv-answer r' ≡ eqv-call l kind a kind′ a′ → r ≡ r'
 eqv-determined l kind a kind′ a′ r r' one two = sym (eqv-back r) ∙ ap from-eqv (one ∙ sym two) ∙ eqv-back r'
+
+-- ---- equal
+
+-- of the refusals that `equal` does not give none is asked for
+refused-equal : Refusal → EqualAnswer
+refused-equal bad-setup = equals.Unsound
+refused-equal unsound = equals.Unsound
+refused-equal short-scratch = equals.ShortScratch
+refused-equal (malformed f n) = equals.Malformed (from-fault f)
+refused-equal over-limit = equals.Unsound
+refused-equal early-label = equals.Unsound
+refused-equal no-such-slot = equals.NoSuchSlot
+refused-equal wrong-cell = equals.Unsound
+refused-equal no-slots = equals.Unsound
+refused-equal no-room = equals.Unsound
+refused-equal short-output = equals.Unsound
+
+from-equal : Answer Bool → EqualAnswer
+unfolding refused-equal
+from-equal (accepted b) = equals.Truth b
+from-equal (refused r) = refused-equal r
+
+equal-back : (r : EqualAnswer) → from-equal (equal-answer r) ≡ r
+unfolding from-equal
+equal-back (equals.Truth b) = refl
+equal-back equals.Unsound = refl
+equal-back equals.ShortScratch = refl
+equal-back (equals.Malformed f) = ap equals.Malformed (fault-back f)
+equal-back equals.NoSuchSlot = refl
+
+-- ---- the rules' call has one outcome
+
+module _ (r r' : Equal-left) where
+  -- whatever refusal or decision a list of tests comes to, if each has one outcome so have the tests
+  one-unless : (ts : List Test) (P P' : Type 0) (Q Q' : Refusal → Type 0) → (P → P' → r ≡ r') → ((n : Refusal) → Q n → Q' n → r ≡ r') → unless ts P Q → unless ts P' Q' → r ≡ r'
+  unfolding refusals
+  one-unless [] P P' Q Q' p q x y = p x y
+  one-unless ((true ⇒ n) ∷ ts) P P' Q Q' p q x y = q n x y
+  one-unless ((false ⇒ n) ∷ ts) P P' Q Q' p q x y = one-unless ts P P' Q Q' p q x y
+
+  one-of : (x : Answer Value) (P P' : Value → Type 0) (Q Q' : Refusal → Type 0) → ((v : Value) → P v → P' v → r ≡ r') → ((n : Refusal) → Q n → Q' n → r ≡ r') → of-answer x P Q → of-answer x P' Q' → r ≡ r'
+  unfolding of-answer
+  one-of (accepted v) P P' Q Q' p q x y = p v x y
+  one-of (refused n) P P' Q Q' p q x y = q n x y
+
+  one-values : (h : Heap) (scratch : List ℕ) (v w : Value) → Equal-values h scratch v w r → Equal-values h scratch v w r' → r ≡ r'
+  unfolding Equal-values
+  one-values h scratch v w =
+      one-unless _ _ _ _ _
+      (λ x y. x .2 ∙ ap (λ (b : Bool). record { answer = accepted b; scratch = _ }) (equal-one h v w (x .0) (y .0) (x .1) (y .1)) ∙ sym (y .2))
+      (λ n x y. x ∙ sym y)
+
+  pub one-call : (l : Lent) (scratch : List ℕ) (kind a kind′ a′ : ℕ) → Equal-call l scratch kind a kind′ a′ r → Equal-call l scratch kind a kind′ a′ r' → r ≡ r'
+  unfolding Equal-call
+  one-call l scratch kind a kind′ a′ =
+      one-unless _ _ _ _ _
+      (one-of (given-value kind a) _ _ _ _
+      (λ v. one-of (given-value kind′ a′) _ _ _ _ (λ w. one-values (heap-of l) scratch v w) (λ n x y. x ∙ sym y))
+      (λ n x y. x ∙ sym y))
+      (λ n x y. x ∙ sym y)
+
+module _ (l : Lent) (scratch : List ℕ) (kind a kind′ a′ : ℕ) (r r' : EqualAnswer) (end end' : List ℕ) where
+  pub equal-determined : Equal-call l scratch kind a kind′ a′ (equal-left r end) → Equal-call l scratch kind a kind′ a′ (equal-left r' end') → (r ≡ r') × (end ≡ end')
+  equal-determined one two =
+      let same = one-call (equal-left r end) (equal-left r' end') l scratch kind a kind′ a′ one two in
+      (sym (equal-back r) ∙ ap (λ (x : Equal-left). from-equal (x .answer)) same ∙ equal-back r', ap (λ (x : Equal-left). x .scratch) same)

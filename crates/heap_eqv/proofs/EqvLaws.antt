@@ -64,14 +64,14 @@ module _ (l : Lent) (ok : sound l ≡ true) where
       omega (arith, b, lent-slots, bounds l (clauses l ok) .words)
 
   -- the words show what the heap shows
-  shown-is : (v : Value) → value-in-use h v ≡ true → shown-in (l .words) v ≡ shown h v
+  pub shown-is : (v : Value) → value-in-use h v ≡ true → shown-in (l .words) v ≡ shown h v
   unfolding shown-in value-in-use layout-rules
   shown-is (slot s) u =
       load-on (rooms-of l .slots) h (l .words) (ap (λ (x : Lent). x .words) again) s (omega (arith, below s u, lent-slots))
   shown-is (scalar x) u = refl
 
   -- a text that a value shows is in use
-  text-used : (v : Value) → value-in-use h v ≡ true → Within (length (h .bytes)) (shown h v)
+  pub text-used : (v : Value) → value-in-use h v ≡ true → Within (length (h .bytes)) (shown h v)
   unfolding value-in-use text-block lies-in blocks-sound
   text-used (slot s) u =
       record {
@@ -98,7 +98,7 @@ module _ (l : Lent) (ok : sound l ≡ true) where
   text-lent b fits = ap (λ (x : Lent). part-of (x .bytes) b) again ∙ text-is (length (l .bytes)) h b fits
 
   -- of the heap `eqv` looks at the texts alone
-  cells-alike : (c d : Cell) → Within (length (h .bytes)) c → Within (length (h .bytes)) d → eqv-cells (holding (l .bytes)) c d ≡ eqv-cells h c d
+  pub cells-alike : (c d : Cell) → Within (length (h .bytes)) c → Within (length (h .bytes)) d → eqv-cells (holding (l .bytes)) c d ≡ eqv-cells h c d
   unfolding eqv-cells holding text-block
   cells-alike (plain s) d p q = refl
   cells-alike (pair a e) d p q = refl
