@@ -2,14 +2,20 @@
 -- answer and the same scratch, refusals too; `equal` has one answer. The heap's lists are lent only to read. Document 01, "Each
 -- public call's promise determines the answer and every lent byte afterwards". Assumes nothing.
 use mathlib.Core.Path.{_≡_, refl, sym, ap, _∙_}
-use mathlib.Core.Bool.{Bool, true, false}
+use mathlib.Core.Bool.{Bool, true, false, not}
 use mathlib.Core.List.{List, [], _∷_}
 use Prim.Native.Nat.{ℕ}
+use lib.Dec.{ltb}
+use lib.ListN.{length}
+use Rattle.laws.specs.Basics.{both}
+use Rattle.rules.specs.Numbers.{scratch-words}
 use Rattle.rules.specs.Refusals.{Refusal, bad-setup, unsound, short-scratch, malformed, over-limit, early-label, no-such-slot, wrong-cell, no-slots, no-room, short-output, Answer, accepted, refused, Test, _⇒_, unless, refusals}
 use Rattle.rules.specs.Cells.{Value}
-use Rattle.rules.specs.Heap.{Heap}
+use Rattle.rules.specs.Heap.{Heap, capacity}
 use Rattle.rules.specs.Layout.{Lent, heap-of}
-use Rattle.rules.specs.Calls.{eqv-call, Equal-left, Equal-values, Equal-call, given-value, of-answer}
+use Rattle.rules.specs.Sound.{sound}
+use Rattle.rules.specs.Equal.{Equal}
+use Rattle.rules.specs.Calls.{eqv-call, Equal-left, Equal-values, Equal-call, cleared, given-value, of-answer, value-in-use}
 use Rattle.equal_laws.proofs.Levels.{equal-one}
 use Rattle.heap_given.proofs.FaultLaws.{from-fault, fault-back}
 use Rattle.doors_equal.specs.declared.EqvAnswer.{EqvAnswer}
@@ -17,6 +23,7 @@ use Rattle.doors_equal.specs.declared.EqvAnswer.the-variants as eqvs
 use Rattle.doors_equal.specs.declared.EqualAnswer.{EqualAnswer}
 use Rattle.doors_equal.specs.declared.EqualAnswer.the-variants as equals
 use Rattle.doors_equal.specs.Answers.{eqv-answer, equal-answer, equal-left}
+use Rattle.doors_equal.specs.Behind.{Equal-second}
 
 -- ---- eqv
 
@@ -81,6 +88,9 @@ equal-back equals.NoSuchSlot = refl
 
 -- ---- the rules' call has one outcome
 
+abbrev stopped : Refusal → List ℕ → Equal-left
+stopped n scratch = record { answer = refused n; scratch = scratch }
+
 module _ (r r' : Equal-left) where
   -- whatever refusal or decision a list of tests comes to, if each has one outcome so have the tests
   one-unless : (ts : List Test) (P P' : Type 0) (Q Q' : Refusal → Type 0) → (P → P' → r ≡ r') → ((n : Refusal) → Q n → Q' n → r ≡ r') → unless ts P Q → unless ts P' Q' → r ≡ r'
@@ -94,19 +104,41 @@ module _ (r r' : Equal-left) where
   one-of (accepted v) P P' Q Q' p q x y = p v x y
   one-of (refused n) P P' Q Q' p q x y = q n x y
 
+  -- what is left where two values may be compared
+  abbrev compared : Heap → List ℕ → Value → Value → Equal-left → Type 0
+  compared h scratch v w x =
+      (truth : Bool) × Equal h v w truth × (x ≡ record { answer = accepted truth; scratch = cleared scratch })
+
+  one-compared : (h : Heap) (scratch : List ℕ) (v w : Value) → compared h scratch v w r → compared h scratch v w r' → r ≡ r'
+  one-compared h scratch v w x y =
+      x .2
+      ∙ ap (λ (b : Bool). record { answer = accepted b; scratch = cleared scratch }) (equal-one h v w (x .0) (y .0) (x .1) (y .1))
+      ∙ sym (y .2)
+
   one-values : (h : Heap) (scratch : List ℕ) (v w : Value) → Equal-values h scratch v w r → Equal-values h scratch v w r' → r ≡ r'
   unfolding Equal-values
   one-values h scratch v w =
-      one-unless _ _ _ _ _
-      (λ x y. x .2 ∙ ap (λ (b : Bool). record { answer = accepted b; scratch = _ }) (equal-one h v w (x .0) (y .0) (x .1) (y .1)) ∙ sym (y .2))
+      one-unless ((not (both (value-in-use h v) (value-in-use h w)) ⇒ no-such-slot) ∷ []) (compared h scratch v w r) (compared h scratch v w r') (λ n. r ≡ stopped n (cleared scratch))
+      (λ n. r' ≡ stopped n (cleared scratch)) (one-compared h scratch v w)
+      (λ n x y. x ∙ sym y)
+
+  one-second : (h : Heap) (scratch : List ℕ) (kind a : ℕ) (v : Value) → Equal-second h scratch v kind a r → Equal-second h scratch v kind a r' → r ≡ r'
+  unfolding Equal-second
+  one-second h scratch kind a v =
+      one-of (given-value kind a) (λ w. Equal-values h scratch v w r) (λ w. Equal-values h scratch v w r')
+      (λ n. r ≡ stopped n (cleared scratch)) (λ n. r' ≡ stopped n (cleared scratch)) (one-values h scratch v)
       (λ n x y. x ∙ sym y)
 
   pub one-call : (l : Lent) (scratch : List ℕ) (kind a kind′ a′ : ℕ) → Equal-call l scratch kind a kind′ a′ r → Equal-call l scratch kind a kind′ a′ r' → r ≡ r'
-  unfolding Equal-call
+  unfolding Equal-call Equal-second
   one-call l scratch kind a kind′ a′ =
-      one-unless _ _ _ _ _
-      (one-of (given-value kind a) _ _ _ _
-      (λ v. one-of (given-value kind′ a′) _ _ _ _ (λ w. one-values (heap-of l) scratch v w) (λ n x y. x ∙ sym y))
+      let given : Equal-left → Type 0 = λ x. of-answer (given-value kind a) (λ v. Equal-second (heap-of l) scratch v kind′ a′ x) (λ n. x ≡ stopped n (cleared scratch)) in
+      one-unless
+      ((not (sound l) ⇒ unsound) ∷ (ltb (length scratch) (scratch-words (capacity (heap-of l))) ⇒ short-scratch) ∷ [])
+      (given r) (given r') (λ n. r ≡ stopped n scratch) (λ n. r' ≡ stopped n scratch)
+      (one-of (given-value kind a) (λ v. Equal-second (heap-of l) scratch v kind′ a′ r)
+      (λ v. Equal-second (heap-of l) scratch v kind′ a′ r') (λ n. r ≡ stopped n (cleared scratch))
+      (λ n. r' ≡ stopped n (cleared scratch)) (λ v. one-second (heap-of l) scratch kind′ a′ v)
       (λ n x y. x ∙ sym y))
       (λ n x y. x ∙ sym y)
 
