@@ -12,7 +12,7 @@
  * memory, and nothing else may write to them while the call runs. The heap is in the lists alone: they may be kept, copied
  * and moved between calls, and calls on different heaps may run side by side.
  *
- * SCRATCH. Put, read and the collection take a list of words to work in: at capacity c at least 8c + 128 words,
+ * SCRATCH. Put, read, equal and the collection take a list of words to work in: at capacity c at least 8c + 128 words,
  * TALVONGRE_SCRATCH_WORDS(c). On return all of it is zero, whatever it held; only after 19 and 20 it is as it was.
  *
  * ANSWERS. Each call answers TALVONGRE_OK or the number of a refusal. Every call but setup first sees whether the lists are a
@@ -115,6 +115,13 @@ uint32_t talvongre_element_store(const uint64_t *words, size_t words_len, const 
 uint32_t talvongre_eqv(const uint64_t *words, size_t words_len, const uint8_t *map, size_t map_len, const uint8_t *bytes,
                        size_t bytes_len, const uint64_t *elems, size_t elems_len, uint64_t kind, uint64_t a, uint64_t kind2,
                        uint64_t a2, uint64_t *truth);
+
+/* Compares two values by equal: each a scalar (kinds 0 to 6) or a slot (kind 15). Pairs are equal by their cars and then along their
+ * cdrs, vectors of one length element by element, strings by content; cycles are no hindrance. Writes 1 or 0 to *truth.
+ * Answers 0, 20, 19, 11 or 14. */
+uint32_t talvongre_equal(const uint64_t *words, size_t words_len, const uint8_t *map, size_t map_len, const uint8_t *bytes,
+                         size_t bytes_len, const uint64_t *elems, size_t elems_len, uint64_t *scratch, size_t scratch_len,
+                         uint64_t kind, uint64_t a, uint64_t kind2, uint64_t a2, uint64_t *truth);
 
 /* Finds the text of the string or symbol in a slot: it is the part of `bytes` that begins at *place and has *size bytes.
  * Answers 0, 20, 14 or 15. */

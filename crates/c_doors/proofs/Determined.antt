@@ -2,14 +2,15 @@
 -- at entry are the same number, the same lists and the same numbers lent for an answer, refusals too. A list lent only to read
 -- stays as it is. Document 01, "Each public call's promise determines the answer and every lent byte afterwards". Assumes
 -- nothing.
-use mathlib.Core.Path.{_≡_, sym, _∙_}
+use mathlib.Core.Path.{_≡_, sym, ap, subst, _∙_}
 use mathlib.Core.List.{List}
 use Prim.Native.Nat.{ℕ}
 use Rattle.rules.specs.Refusals.{Answer}
 use Rattle.rules.specs.Cells.{Block}
 use Rattle.rules.specs.Layout.{Lent}
-use Rattle.rules.specs.Calls.{put-call, read-call, collect-call, Stored, cell-store, element-store, eqv-call, setup, text-call, capacity-call, free-call, used-call}
-use Rattle.c_doors.specs.Told.{Told, ToldBlock, ToldSetup, ToldPut, ToldRead, ToldCollect, ToldStore, ToldTruth}
+use Rattle.rules.specs.Calls.{put-call, read-call, collect-call, Stored, cell-store, element-store, eqv-call, Equal-left, Equal-call, setup, text-call, capacity-call, free-call, used-call}
+use Rattle.doors_equal.proofs.Determined.{one-call}
+use Rattle.c_doors.specs.Told.{Told, ToldBlock, ToldSetup, ToldPut, ToldRead, ToldCollect, ToldStore, ToldTruth, ToldEqual}
 
 -- ---- any answer that is a number
 
@@ -53,6 +54,15 @@ module _ (l : Lent) (r r' : ℕ) (after after' : Lent) where
 module _ (l : Lent) (kind a kind′ a′ stood r r' n n' : ℕ) where
   pub eqv-determined : ToldTruth (eqv-call l kind a kind′ a′) stood r n → ToldTruth (eqv-call l kind a kind′ a′) stood r' n' → (r ≡ r') × (n ≡ n')
   eqv-determined one two = (one .number ∙ sym (two .number), one .second ∙ sym (two .second))
+
+module _ (l : Lent) (scratch : List ℕ) (kind a kind′ a′ stood r r' : ℕ) (end end' : List ℕ) (n n' : ℕ) where
+  pub equal-determined : ToldEqual (Equal-call l scratch kind a kind′ a′) stood r end n → ToldEqual (Equal-call l scratch kind a kind′ a′) stood r' end' n' → ((r ≡ r') × (n ≡ n')) × (end ≡ end')
+  equal-determined one two =
+      let same = one-call (one .outcome) (two .outcome) l scratch kind a kind′ a′ (one .by-rules) (two .by-rules) in
+      let told = subst (λ (x : Equal-left). ToldTruth (x .answer) stood r n) same (one .told-is) in (
+        (told .number ∙ sym (two .told-is .number), told .second ∙ sym (two .told-is .second)),
+        one .scratch-is ∙ ap (λ (x : Equal-left). x .scratch) same ∙ sym (two .scratch-is),
+      )
 
 module _ (l : Lent) (s stood stood' r r' p p' n n' : ℕ) where
   pub text-determined : ToldBlock (text-call l s) stood stood' r p n → ToldBlock (text-call l s) stood stood' r' p' n' → (r ≡ r') × (p ≡ p') × (n ≡ n')

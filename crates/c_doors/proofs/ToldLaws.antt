@@ -8,7 +8,7 @@ use Rattle.leaf_cells.proofs.KindLaws.{bool-word}
 use Rattle.rules.specs.Refusals.{Refusal, Answer, accepted, refused, told, number-of}
 use Rattle.rules.specs.Cells.{Block, block, bit}
 use Rattle.rules.specs.Layout.{Lent}
-use Rattle.rules.specs.Calls.{Left, left, Set-up, Read-left, Stored, stored}
+use Rattle.rules.specs.Calls.{Left, left, Set-up, Read-left, Stored, stored, Equal-left}
 use Rattle.doors.specs.Answers.{setup-answer, set-up}
 use Rattle.doors_collect.specs.Answers.{collect-answer}
 use Rattle.doors_store.specs.Answers.{store-answer}
@@ -19,7 +19,9 @@ use Rattle.doors_store.specs.declared.StoreAnswer.the-variants as stores
 use Rattle.doors.specs.declared.SetupAnswer.{SetupAnswer}
 use Rattle.doors_read.specs.Answers.{read-answer, read-left}
 use Rattle.doors_read.specs.declared.ReadAnswer.{ReadAnswer}
-use Rattle.c_doors.specs.Told.{given, Told, ToldBlock, ToldSetup, ToldPut, ToldRead, ToldCollect, ToldStore, ToldTruth}
+use Rattle.doors_equal.specs.Answers.{equal-answer, equal-left}
+use Rattle.doors_equal.specs.declared.EqualAnswer.{EqualAnswer}
+use Rattle.c_doors.specs.Told.{given, Told, ToldBlock, ToldSetup, ToldPut, ToldRead, ToldCollect, ToldStore, ToldTruth, ToldEqual}
 
 -- ---- one number
 
@@ -138,3 +140,6 @@ module _ (a : Answer Bool) (stood : ℕ) where
 
   pub truth-same : (b : Answer Bool) (r n : ℕ) → a ≡ b → ToldTruth a stood r n → ToldTruth b stood r n
   truth-same b r n e t = subst (λ (x : Answer Bool). ToldTruth x stood r n) e t
+
+pub told-equal : (call : Equal-left → Type 0) (a : EqualAnswer) (stood r : ℕ) (end : List ℕ) (n : ℕ) → call (equal-left a end) → ToldTruth (equal-answer a) stood r n → ToldEqual call stood r end n
+told-equal call a stood r end n x t = record { outcome = equal-left a end; by-rules = x; told-is = t; scratch-is = refl }

@@ -8,7 +8,7 @@ use Prim.Native.Nat.{ℕ}
 use Rattle.rules.specs.Refusals.{Answer, accepted, refused, told}
 use Rattle.rules.specs.Cells.{Block, bit}
 use Rattle.rules.specs.Layout.{Lent}
-use Rattle.rules.specs.Calls.{Left, Set-up, Read-left, Stored}
+use Rattle.rules.specs.Calls.{Left, Set-up, Read-left, Stored, Equal-left}
 
 -- a number of what was asked for, or what stood there
 unfoldable pub given {ℓ} : {A : Type 0} {B : Type ℓ} → (A → B) → Answer A → B → B
@@ -58,3 +58,10 @@ pub record ToldStore (x : Stored) (r : ℕ) (after : Lent) : Type 0 where
 pub record ToldTruth (a : Answer Bool) (stood r n : ℕ) : Type 0 where
   pub number : r ≡ told a
   pub second : n ≡ given bit a stood
+
+-- `equal`: of what the rules allow, which is one outcome, the number, 1 or 0, and the scratch
+pub record ToldEqual (call : Equal-left → Type 0) (stood r : ℕ) (end : List ℕ) (n : ℕ) : Type 0 where
+  pub outcome : Equal-left
+  pub by-rules : call outcome
+  pub told-is : ToldTruth (outcome .answer) stood r n
+  pub scratch-is : end ≡ outcome .scratch

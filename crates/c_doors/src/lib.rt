@@ -3,14 +3,14 @@
 // what was asked for through its last parameters: "A refusal answers its number only, and leaves heap and output as they stood."
 ghost use mathlib.Core.Path.{_≡_};
 ghost use Rattle.rules.specs.Refusals.{told};
-ghost use Rattle.rules.specs.Calls.{setup, put-call, read-call, collect-call, cell-store, element-store, eqv-call, text-call, capacity-call, free-call, used-call};
+ghost use Rattle.rules.specs.Calls.{setup, put-call, read-call, collect-call, cell-store, element-store, eqv-call, Equal-call, text-call, capacity-call, free-call, used-call};
 ghost use Rattle.heap_sound_rows.specs.Rows.{lists};
 ghost use Rattle.doors.specs.Answers.{put-answer, count-answer, block-answer};
 ghost use Rattle.doors_collect.specs.Answers.{collect-answer};
 ghost use Rattle.doors_store.specs.Answers.{store-answer};
-ghost use Rattle.doors_equal.specs.Answers.{eqv-answer};
+ghost use Rattle.doors_equal.specs.Answers.{eqv-answer, equal-answer};
 ghost use Rattle.doors_read.specs.Answers.{read-answer};
-ghost use Rattle.c_doors.specs.Told.{Told, ToldBlock, ToldSetup, ToldPut, ToldRead, ToldCollect, ToldStore, ToldTruth};
+ghost use Rattle.c_doors.specs.Told.{Told, ToldBlock, ToldSetup, ToldPut, ToldRead, ToldCollect, ToldStore, ToldTruth, ToldEqual};
 
 // "10 | setup, which gives no other": a fresh heap in the lent lists, whatever they held.
 #[no_mangle]
@@ -212,6 +212,42 @@ pub extern "C" fn talvongre_eqv(
 {
     let x = doors_equal::eqv(words, map, bytes, elems, kind, a, kind2, a2);
     tell_eqv(x, truth)
+}
+
+// The answer of `equal` by number, and 1 or 0 for yes or no.
+fn tell_equal(a: doors_equal::EqualAnswer, truth: &mut u64) -> u32
+    ensures { λ r. ⌜ ToldTruth (equal-answer a) (now (truth .entry)) r (now (truth .exit)) ⌝ }
+{
+    match a {
+        doors_equal::EqualAnswer::Truth(t) => {
+            *truth = t as u64;
+            0
+        }
+        doors_equal::EqualAnswer::Unsound => 20,
+        doors_equal::EqualAnswer::ShortScratch => 19,
+        doors_equal::EqualAnswer::Malformed(_) => 11,
+        doors_equal::EqualAnswer::NoSuchSlot => 14,
+    }
+}
+
+// `equal` of two values: 20, 19, 11 or 14, or 0 and the truth.
+#[no_mangle]
+pub extern "C" fn talvongre_equal(
+    words: &[u64],
+    map: &[u8],
+    bytes: &[u8],
+    elems: &[u64],
+    scratch: &mut [u64],
+    kind: u64,
+    a: u64,
+    kind2: u64,
+    a2: u64,
+    truth: &mut u64,
+) -> u32
+    ensures { λ r. ⌜ ToldEqual (Equal-call (lists (now (words .entry)) (now (map .entry)) (now (bytes .entry)) (now (elems .entry))) (now (scratch .entry)) kind a kind2 a2) (now (truth .entry)) r (now (scratch .exit)) (now (truth .exit)) ⌝ }
+{
+    let x = doors_equal::equal(words, map, bytes, elems, scratch, kind, a, kind2, a2);
+    tell_equal(x, truth)
 }
 
 // A block's answer by number, and its place and size.

@@ -14,6 +14,7 @@ unsafe extern "C" {
     fn talvongre_put(w: *mut u64, wl: usize, m: *mut u8, ml: usize, b: *mut u8, bl: usize, e: *mut u64, el: usize, s: *mut u64, sl: usize, d: *const u8, dl: usize, slot: &mut u64) -> u32;
     fn talvongre_collect(w: *mut u64, wl: usize, m: *mut u8, ml: usize, b: *mut u8, bl: usize, e: *mut u64, el: usize, s: *mut u64, sl: usize, r: *const u64, rl: usize) -> u32;
     fn talvongre_read(w: *const u64, wl: usize, m: *const u8, ml: usize, b: *const u8, bl: usize, e: *const u64, el: usize, s: *mut u64, sl: usize, o: *mut u8, ol: usize, kind: u64, a: u64, length: &mut u64) -> u32;
+    fn talvongre_equal(w: *const u64, wl: usize, m: *const u8, ml: usize, b: *const u8, bl: usize, e: *const u64, el: usize, s: *mut u64, sl: usize, kind: u64, a: u64, kind2: u64, a2: u64, truth: &mut u64) -> u32;
     fn talvongre_cell_store(w: *mut u64, wl: usize, m: *const u8, ml: usize, b: *const u8, bl: usize, e: *const u64, el: usize, slot: u64, kind: u64, a: u64, b2: u64) -> u32;
     fn talvongre_used(w: *const u64, wl: usize, m: *const u8, ml: usize, b: *const u8, bl: usize, e: *const u64, el: usize, count: &mut u64) -> u32;
 }
@@ -107,7 +108,7 @@ impl Port {
     fn equal(&mut self, left: u64, right: u64) -> bool {
         let mut truth = 2;
         let (s, n) = (self.scratch.as_mut_ptr(), self.scratch.len());
-        
+        assert_eq!(port!(talvongre_equal, self, s, n, 15, left, 15, right, &mut truth), 0);
         truth == 1
     }
 
@@ -294,5 +295,6 @@ fn main() {
     with_stack(|| {
         collections();
         readings();
+        equality();
     });
 }
