@@ -1,7 +1,7 @@
-/* A host in C over the linked library: the deepest data, each put, read and collected in a thread of 2 MiB whose stack is painted
- * beforehand, so that the bytes used can be read off afterwards; then the times of the soundness check and of put. Document 01, "Numbers":
- * a datum has 4,096 nodes, so none is nested deeper. Answers and stack are tests; times are printed only. First each call
- * once, accepted and refused, as a host makes it. */
+/* A host in C over the linked library: the deepest data, each put, read, compared and collected in a thread of 2 MiB whose stack
+ * is painted beforehand, so that the bytes used can be read off afterwards; then the times of the soundness check and of put.
+ * Document 01, "Numbers": a datum has 4,096 nodes, so none is nested deeper. Answers and stack are tests; times are printed
+ * only. First each call once, accepted and refused, as a host makes it. */
 #define _GNU_SOURCE
 #include <pthread.h>
 #include <stdint.h>
@@ -46,7 +46,9 @@ static size_t datum_len;
     (h)->words, TALVONGRE_WORDS((h)->slots), (h)->map, TALVONGRE_MAP_BYTES((h)->slots), (h)->bytes, (h)->bytes_len,          \
         (h)->elems, TALVONGRE_ELEMENT_WORDS((h)->elements)
 
-enum what { NOTHING, SETUP, USED, TEXT, PUT, READ, COLLECT };
+enum what { NOTHING, SETUP, USED, TEXT, PUT, READ, EQUAL, COLLECT };
+
+static uint64_t other; /* the slot that a slot is compared with */
 
 struct call {
     enum what what;
@@ -76,6 +78,9 @@ static void *run(void *at) {
         break;
     case READ:
         c->answer = talvongre_read(LISTS(&heap), scratch, TALVONGRE_SCRATCH_WORDS(heap.slots), out, sizeof out, 15, c->given, &c->result);
+        break;
+    case EQUAL:
+        c->answer = talvongre_equal(LISTS(&heap), scratch, TALVONGRE_SCRATCH_WORDS(heap.slots), 15, c->given, 15, other, &c->result);
         break;
     case COLLECT:
         c->answer = talvongre_collect(LISTS(&heap), scratch, TALVONGRE_SCRATCH_WORDS(heap.slots), &c->given, 1);
@@ -321,6 +326,21 @@ static void deep_ring(void) {
     test(in_thread(COLLECT, root, "collect, a ring of vectors", MOST_NODES - 2).answer == TALVONGRE_OK, "refused", "collect, a ring of vectors");
 }
 
+/* Two data of half the nodes each, compared. */
+static void deep_equal(enum shape shape) {
+    char title[80];
+    set_up(MOST_SLOTS, MOST_BYTES, MOST_ELEMENTS, MOST_SLOTS);
+    size_t depth = deepest(shape, MOST_NODES / 2);
+    snprintf(title, sizeof title, "equal, %s", names[shape]);
+    other = call(PUT, 0).result;
+    struct call c = call(PUT, 0);
+    uint64_t root = c.result;
+    memset(scratch, 0xff, sizeof scratch);
+    c = in_thread(EQUAL, root, title, depth);
+    test(c.answer == TALVONGRE_OK && c.result == 1, "not equal", title);
+    test(scratch_zero(), "scratch not zero", title);
+}
+
 /* Every slot a pair that names the next one twice, which unfolds to more nodes than a datum has, along the longest path that a
  * heap has: 12, and soon. */
 static void unfolding(void) {
@@ -355,6 +375,7 @@ static void stacks(void) {
     test(in_thread(SETUP, MOST_SLOTS, "setup", 0).answer == TALVONGRE_OK, "refused", "setup");
     for (int shape = 0; shape < SHAPES; shape++) deep_read((enum shape)shape, deep_put((enum shape)shape, MOST_SLOTS));
     deep_ring();
+    for (int shape = CARS; shape <= VECTORS; shape++) deep_equal((enum shape)shape);
     unfolding();
     test(in_thread(USED, 0, "used: the soundness check alone", 0).answer == TALVONGRE_OK, "refused", "used");
     test(in_thread(TEXT, 0, "text", 0).answer == TALVONGRE_WRONG_CELL, "another answer", "text");
@@ -404,6 +425,13 @@ static void calls(void) {
     test(c.answer == TALVONGRE_NO_SUCH_SLOT && c.result == UINT64_MAX, "Free", "read");
     test(talvongre_read(LISTS(&heap), scratch, TALVONGRE_SCRATCH_WORDS(4), out, 10, 15, 1, &n) == TALVONGRE_SHORT_OUTPUT && n == 3, "output", "read");
     test(talvongre_read(LISTS(&heap), scratch, TALVONGRE_SCRATCH_WORDS(4), out, 11, 4, 2, &n) == TALVONGRE_MALFORMED && n == 3, "Bool", "read");
+    other = 2;
+    c = call(EQUAL, 2);
+    test(c.answer == TALVONGRE_OK && c.result == 1, "one slot", "equal");
+    c = call(EQUAL, 1);
+    test(c.answer == TALVONGRE_OK && c.result == 0, "string and nil", "equal");
+    c = call(EQUAL, 4);
+    test(c.answer == TALVONGRE_NO_SUCH_SLOT && c.result == UINT64_MAX, "past the capacity", "equal");
     put_datum_of(7, "bytes 7");
     c = call(PUT, 0);
     test(c.answer == TALVONGRE_NO_ROOM && c.result == UINT64_MAX, "room", "put");

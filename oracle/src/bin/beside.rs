@@ -238,25 +238,16 @@ fn ring(n: usize) -> Vec<String> {
 
 fn equality() {
     println!("\n{:<34} {:>6} {:>10} {:>10} {:>10} {:>9}", "equal, microseconds", "slots", "whole", "less check", "the Rust", "to before");
-    for name in ["two lists", "two vectors of vectors", "sharing at each step, twice", "rings of unlike periods"] {
+    for name in ["two lists", "two wide vectors of strings", "sharing at each step, twice", "rings of unlike periods"] {
         let mut before = 0.0;
         for slots in [256, 512, 1024, 2048, 4096] {
             let mut data: Vec<Vec<String>> = Vec::new();
             match name {
                 "two lists" => data.extend(vec![list(slots / 4 - 1); 2]),
-                "two vectors of vectors" => {
-                    let rows = slots / 64;
-                    let mut one = vec![format!("vec={rows}")];
-                    for _ in 0..rows {
-                        one.extend(vector(slots / 16 - 2));
-                    }
-                    if one.len() <= 4096 {
-                        data.extend(vec![one; 2]);
-                    } else {
-                        let mut one = vec![format!("vec={}", slots / 64)];
-                        (0..slots / 64).for_each(|_| one.extend(vector(4096 / (slots / 64) - 2)));
-                        data.extend(vec![one; 2]);
-                    }
+                "two wide vectors of strings" => {
+                    let mut one = vec![format!("vec={}", slots / 4)];
+                    one.extend(vec!["str=6162".to_string(); slots / 4]);
+                    data.extend(vec![one; 2]);
                 }
                 "rings of unlike periods" => data.extend([ring(slots / 4 - 1), ring(slots / 4 - 2)]),
                 _ => data.extend(vec![list(slots / 4 - 1); 2]),
