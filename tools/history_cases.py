@@ -227,7 +227,7 @@ def unfolding():
     history.call("elemstore %d 0 @%d" % (one, below))
     history.call("elemstore %d 0 @%d" % (two, below))
     assert len(history.read(one)) == 4095 + 5
-    for slot in range(2):
+    for _ in range(2):
         above = history.put("pair=", "nil=", "nil=")
         history.call("cellstore %d pair:%d,%d" % (above, below, below))
         below = above
@@ -275,7 +275,7 @@ def full():
 
 
 def packed():
-    history = History("no room for a text or for elements: 17, and after a collection packed the blocks it is put", 16)
+    history = History("no room for a text or for elements: 17, and put after a collection has packed the blocks", 16)
     parts = [history.put(string(letter * 2730)) for letter in "abc"]
     last = history.put(string("zz"))
     history.refused(17, "p " + datum([string("x")]).hex(), "p " + datum([symbol("x")]).hex())

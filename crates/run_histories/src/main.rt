@@ -97,15 +97,19 @@ fn print_hexed(list: &[u8]) {
     io::write_all(1, &line[..m]);
 }
 
+fn say(key: &[u8], n: u64) {
+    io::write_all(1, key);
+    io::print_decimal(1, n);
+    io::write_all(1, b"\n");
+}
+
 // What a call told that gives no value.
 fn tell(number: u32) {
     if number == 0 {
         io::write_all(1, b"ok\n");
         return;
     }
-    io::write_all(1, b"refused=");
-    io::print_decimal(1, number as u64);
-    io::write_all(1, b"\n");
+    say(b"refused=", number as u64);
 }
 
 fn tell_slot(number: u32, slot: u64) {
@@ -113,9 +117,7 @@ fn tell_slot(number: u32, slot: u64) {
         tell(number);
         return;
     }
-    io::write_all(1, b"slot=");
-    io::print_decimal(1, slot);
-    io::write_all(1, b"\n");
+    say(b"slot=", slot);
 }
 
 fn tell_truth(number: u32, truth: u64) {
@@ -213,9 +215,7 @@ fn print_entry(words: &[u64], map: &[u8], bytes: &[u8], elems: &[u64], slot: u64
             io::print_decimal(1, word(words, 8 * i + 14));
             io::write_all(1, b":");
             print_hexed(doors::text(words, map, bytes, elems, slot));
-            io::write_all(1, b":");
-            io::print_decimal(1, slot);
-            io::write_all(1, b"\n");
+            say(b":", slot);
         }
         i += 1;
     }
@@ -331,16 +331,9 @@ fn run(
     let mut at = 0;
     while at < text.len() {
         let end = at + line_length(&text[at..]);
-        let n = numbers(&text[at..end], given);
-        step(
-            words,
-            map,
-            bytes,
-            elems,
-            scratch,
-            &text[at..end],
-            &given[..n],
-        );
+        let line = &text[at..end];
+        let n = numbers(line, given);
+        step(words, map, bytes, elems, scratch, line, &given[..n]);
         at = end;
     }
 }

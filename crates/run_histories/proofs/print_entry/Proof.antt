@@ -5,10 +5,10 @@ use Rattle.run_histories.proofs.print_entry.Statement.{statement}
 use Rattle.run_histories.proofs.print_entry.Tie as tie
 
 abbrev Inv-loop : tie.InvT-loop
-Inv-loop words map bytes elems slot entries i₀ t8 t9 t10 t11 i = i ≤ entries
+Inv-loop words map bytes elems slot entries i₀ t8 t9 t10 i = i ≤ entries
 
 abbrev μ-loop : tie.MeasureT-loop
-μ-loop words map bytes elems slot entries i₀ t8 t9 t10 t11 i = entries - i
+μ-loop words map bytes elems slot entries i₀ t8 t9 t10 i = entries - i
 
 word-requires : tie.Need-word-requires Inv-loop μ-loop
 word-requires c κs = search needs
@@ -58,20 +58,11 @@ text-requires c κs = search needs
 print-hexed-requires : tie.Need-print-hexed-requires Inv-loop μ-loop
 print-hexed-requires c κs = search needs
 
-slice-aggregate-write-all-3 : tie.Need-slice-aggregate-write-all-3 Inv-loop μ-loop
-slice-aggregate-write-all-3 c = search needs
+slice-aggregate-say : tie.Need-slice-aggregate-say Inv-loop μ-loop
+slice-aggregate-say c = search needs
 
-write-all-requires-3 : tie.Need-write-all-requires-3 Inv-loop μ-loop
-write-all-requires-3 c κs = search needs
-
-print-decimal-requires-2 : tie.Need-print-decimal-requires-2 Inv-loop μ-loop
-print-decimal-requires-2 c κs = search needs
-
-slice-aggregate-write-all-4 : tie.Need-slice-aggregate-write-all-4 Inv-loop μ-loop
-slice-aggregate-write-all-4 c = search needs
-
-write-all-requires-4 : tie.Need-write-all-requires-4 Inv-loop μ-loop
-write-all-requires-4 c κs = search needs
+say-requires : tie.Need-say-requires Inv-loop μ-loop
+say-requires c κs = search needs
 
 add-i : tie.Need-add-i Inv-loop μ-loop
 add-i c = search needs
@@ -107,11 +98,8 @@ print-entry-spec =
     write-all-requires-2
     text-requires
     print-hexed-requires
-    slice-aggregate-write-all-3
-    write-all-requires-3
-    print-decimal-requires-2
-    slice-aggregate-write-all-4
-    write-all-requires-4
+    slice-aggregate-say
+    say-requires
     add-i
     loop-less
     loop-again
