@@ -1,7 +1,6 @@
 -- `run_histories::numbers`: one byte at a time. Assumes nothing.
 use mathlib.Core.Path.{_≡_}
 use Prim.Native.Nat.{_≤_, _-_}
-use native.Mathlib.Omega.{arith}
 use lib.ListN.{length}
 use borrow.Author.Needs.{needs}
 use Rattle.run_histories.proofs.numbers.Statement.{statement}
