@@ -63,6 +63,15 @@ fn say_refused(number: u64, line: &mut [u8])
     say(line, n);
 }
 
+// A heap's own lines of the listing: its counts, and its slots.
+pub fn print_heap(words: &[u64], map: &[u8], bytes: &[u8], elems: &[u64])
+    requires { ⌜ sound (lists (now words) (now map) (now bytes) (now elems)) ≡ true ⌝ }
+{
+    let mut line = [0u8; 32768];
+    say_counts(words, map, bytes, elems, &mut line);
+    say_slots(words, map, bytes, elems, &mut line);
+}
+
 // The whole listing.
 fn say_listing(
     words: &[u64],
@@ -76,8 +85,7 @@ fn say_listing(
     requires { ⌜ 32768 ≤ length (now line) ⌝ }
 {
     say_roots(roots, line);
-    say_counts(words, map, bytes, elems, line);
-    say_slots(words, map, bytes, elems, line);
+    print_heap(words, map, bytes, elems);
 }
 
 // The answer, with the room that it takes.
