@@ -15,7 +15,7 @@ compare = importlib.machinery.SourceFileLoader("compare", os.path.join("oracle",
 SEED, COUNT = 20261115, 60
 LONGEST = 16384
 # the commands whose calls the program has, each with the letter of its line
-LETTERS = {"setup": "s", "put": "p", "cellstore": "c", "elemstore": "e", "collect": "g", "read": "r", "eqv": "v", "dump": "d"}
+LETTERS = {"setup": "s", "put": "p", "cellstore": "c", "elemstore": "e", "collect": "g", "read": "r", "eqv": "v", "equal": "q", "dump": "d"}
 
 
 def oracle(words, text):
@@ -37,6 +37,7 @@ def line(words, nodes, length):
         "collect": lambda: words[1].split(",") if len(words) > 1 else [],
         "read": lambda: [length, *compare.given(words[1])[:2]],
         "eqv": lambda: [*compare.given(words[1])[:2], *compare.given(words[2])[:2]],
+        "equal": lambda: [*compare.given(words[1])[:2], *compare.given(words[2])[:2]],
         "dump": lambda: [],
     }[words[0]]()
     return " ".join([LETTERS[words[0]]] + [str(number) for number in numbers])
@@ -136,7 +137,7 @@ def template(crane, parts):
 
 def lapsed_and_free():
     """The handle is the lowest slot of its template, which is given again last: it stays Free, and is told so."""
-    history = History("a lapsed handle whose slot stays free: 14, nothing changes, and the neighbours' templates stand", 16)
+    history = History("the incident: a lapsed handle whose slot stays free: 14, nothing changes, and the neighbours' templates stand", 16)
     first = history.put("def=0", "pair=", symbol("first"), *listed([string("hook")], ["vec=2", "ref=0", "num=4"]))
     neighbour = template("second", ["beam", "winch"])
     second = history.put(*neighbour)
@@ -156,7 +157,7 @@ def lapsed_and_free():
 
 def lapsed_and_taken():
     """The handle is the highest slot of its template, which is given again first: it names a part of the next template."""
-    history = History("a lapsed handle whose slot the next template took: it names what is there now, and that stands", 16)
+    history = History("the incident: a lapsed handle whose slot the next template took: it names what is there now, and that stands", 16)
     first = history.put(*template("first", ["hook", "beam"]))
     second = history.put(*template("second", ["winch"]))
     history.call("collect %d" % second)
@@ -175,7 +176,7 @@ def lapsed_and_taken():
 
 
 def refusals():
-    history = History("refusals of the stores, of eqv and of read: 11 before 14 before 15, and the heap stands", 16)
+    history = History("refusals of the stores, of eqv, equal and read: 11 before 14 before 15, and the heap stands", 16)
     name = history.put(symbol("name"))
     vector = history.put("vec=2", "num=1", string("two"))
     pair = history.put("pair=", "nil=", "bool=1")
@@ -189,14 +190,16 @@ def refusals():
         "c %d 4 2 0" % pair, "c %d 5 55296 0" % pair, "c %d 5 57343 0" % pair, "c %d 5 1114112 0" % pair,
         *["e %d 0 %d 0" % (vector, kind) for kind in (7, 8, 9, 10, 11, 12, 13, 14, 16, 255, 2**64 - 1)],
         "e %d 0 4 2" % vector, "e %d 0 5 55296" % vector,
-        "v 9 0 1 0", "v 1 0 7 0", "v 4 2 1 0", "v 1 0 5 55296", "r 16384 9 0", "r 16384 4 2", "r 16384 16 0",
+        *[letter + rest for letter in "vq" for rest in (" 9 0 1 0", " 1 0 7 0", " 4 2 1 0", " 1 0 5 55296")], "r 16384 9 0", "r 16384 4 2", "r 16384 16 0",
         # before 14 and 15
-        "c %d 7 0 0" % free, "c %d 4 2 0" % name, "e %d 0 9 0" % free, "e %d 9 4 2" % pair, "v 15 %d 7 0" % free, "v 7 0 15 %d" % free)
+        "c %d 7 0 0" % free, "c %d 4 2 0" % name, "e %d 0 9 0" % free, "e %d 9 4 2" % pair, "v 15 %d 7 0" % free, "v 7 0 15 %d" % free,
+        "q 15 %d 7 0" % free, "q 7 0 15 %d" % free)
     history.nothing_changes(
         14,
         *[text for slot in (free, *far) for text in (
             "c %d 1 0 0" % slot, "c %d 9 %d %d" % (pair, slot, pair), "c %d 9 %d %d" % (pair, pair, slot), "e %d 0 1 0" % slot,
             "e %d 0 15 %d" % (vector, slot), "v 15 %d 1 0" % slot, "v 1 0 15 %d" % slot, "v 15 %d 15 %d" % (slot, slot),
+            "q 15 %d 1 0" % slot, "q 1 0 15 %d" % slot, "q 15 %d 15 %d" % (slot, slot),
             "r 16384 15 %d" % slot, "g %d" % slot, "g %d %d" % (pair, slot))],
         # before 15 and 18
         "c %d 9 %d %d" % (name, free, free), "e %d 2 15 %d" % (vector, free), "e %d 0 15 %d" % (pair, free), "r 0 15 %d" % free)
@@ -205,7 +208,7 @@ def refusals():
         "c %d 1 0 0" % name, "c %d 9 %d %d" % (name, pair, pair),
         *["e %d 0 1 0" % slot for slot in (name, pair)], "e %d 2 1 0" % vector, "e %d %d 1 0" % (vector, 2**64 - 1))
     history.nothing_changes(18, *["r 0 15 %d" % slot for slot in (name, vector, pair)], "r 0 1 0", "r 4 4 1", "r 8 6 7")
-    for text in ("read nil", "read bool:1", "read num:-7", "eqv num:1 num:1", "eqv void void", "cellstore %d pair:%d,%d" % (pair, pair, name),
+    for text in ("read nil", "read bool:1", "read num:-7", "eqv num:1 num:1", "eqv void void", "equal void void", "equal num:1 @%d" % pair, "cellstore %d pair:%d,%d" % (pair, pair, name),
                  "elemstore %d 1 @%d" % (vector, name), "cellstore %d void" % vector):
         history.call(text)
     for slot in name, pair, vector:
@@ -324,6 +327,48 @@ def shared():
     history.dump()
 
 
+def comparing():
+    history = History("equal: lists, vectors, walks that end in symbols, rings of unlike periods, and what is shared without end", 8)
+    both = lambda *nodes: (history.put(*nodes), history.put(*nodes))
+    ring = lambda n: ["def=0"] + ["pair=", "num=1"] * n + ["ref=0"]
+    pairs = [
+        both("pair=", "num=1", symbol("foo")),  # reading 11
+        both("pair=", "num=1", "pair=", "num=2", "nil="),  # reading 12
+        both("vec=2", symbol("a"), "vec=1", string("x")), both("vec=1", "void="), both(string("ab")), both(symbol("ab")),
+        (history.put("vec=1", "num=1"), history.put("vec=2", "num=1", "num=1")),
+        (history.put("pair=", "void=", "nil="), history.put("pair=", "void=", "nil=")),
+        (history.put(*ring(2)), history.put(*ring(3))), (history.put(*ring(3)), history.put(*ring(4)[:-1], "nil=")),
+    ]
+    history.dump()
+    for left, right in pairs:
+        for one, two in ((left, right), (right, left), (left, left)):
+            history.call("equal @%d @%d" % (one, two))
+            history.call("eqv @%d @%d" % (one, two))
+    # a pair that ends in a symbol is equal to itself and, by its fields, to a pair of the same slots; to no other
+    first, second = pairs[0]
+    car, cdr = history.put("num=1"), history.put(symbol("foo"))
+    for slot in first, second:
+        history.call("cellstore %d pair:%d,%d" % (slot, car, cdr))
+    history.call("equal @%d @%d" % (first, second))
+    history.call("equal @%d @%d" % (cdr, cdr))
+    outer = [history.put("pair=", "nil=", "nil=") for _ in range(2)]
+    for slot, inner in zip(outer, (first, second)):
+        history.call("cellstore %d pair:%d,%d" % (slot, car, inner))
+    history.call("equal @%d @%d" % tuple(outer))
+    history.call("equal @%d @%d" % (outer[0], outer[0]))
+    # each pair names the next one twice
+    below = both("nil=")
+    for _ in range(12):
+        above = both("pair=", "nil=", "nil=")
+        for slot, inner in zip(above, below):
+            history.call("cellstore %d pair:%d,%d" % (slot, inner, inner))
+        below = above
+    history.call("equal @%d @%d" % below)
+    history.call("collect %d,%d" % below)
+    history.call("equal @%d @%d" % below)
+    history.dump()
+
+
 def cycles():
     history = History("cycles go when no root reaches them; their symbols leave the table and are made anew", 8)
     ring = history.put("def=0", "pair=", symbol("ring"), "pair=", "vec=2", "ref=0", "ident=7:" + "ring".encode().hex(), "ref=0")
@@ -343,7 +388,7 @@ def cycles():
     history.dump()
 
 
-for one in lapsed_and_free, lapsed_and_taken, refusals, unfolding, labels, full, packed, shared, cycles:
+for one in lapsed_and_free, lapsed_and_taken, refusals, unfolding, labels, full, packed, shared, comparing, cycles:
     one()
 BY_HAND = len(ASKED)
 

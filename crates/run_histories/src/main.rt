@@ -1,8 +1,8 @@
 // Runs stored histories of calls, one call a line, on one set of lent lists (256 slots, 8,192 bytes, 4,096 elements). A line is a
 // letter and numbers with a blank before each: "s CHUNK" setup, "p HEX" put of a datum's bytes, "c SLOT KIND A B" cell store,
 // "e SLOT INDEX KIND A" element store, "g ROOT ROOT .." collection, "r LENGTH KIND A" read into an output of that length,
-// "v KIND A KIND A" eqv, "d" the whole heap; "#" begins a remark, which is said again. Each answer is as the oracle prints it,
-// but a datum is its bytes in hex. What the histories are, and where their answers come from (the original Rust, or document 01
+// "v KIND A KIND A" eqv, "q KIND A KIND A" equal, "d" the whole heap; "#" begins a remark, which is said again. Each answer is as
+// the oracle prints it, but a datum is its bytes in hex. What the histories are, and where their answers come from (the original Rust, or document 01
 // for refusals that it does not have), is in tools/history_cases.py.
 ghost use Prim.Native.Nat.{_≤_};
 ghost use mathlib.Core.Path.{_≡_};
@@ -252,6 +252,24 @@ fn dump(words: &[u64], map: &[u8], bytes: &[u8], elems: &[u64]) {
     }
 }
 
+// "q KIND A KIND A"
+fn equal(words: &[u64], map: &[u8], bytes: &[u8], elems: &[u64], scratch: &mut [u64], given: &[u64]) {
+    let mut truth = 0;
+    let k = c_doors::talvongre_equal(
+        words,
+        map,
+        bytes,
+        elems,
+        scratch,
+        word(given, 0),
+        word(given, 1),
+        word(given, 2),
+        word(given, 3),
+        &mut truth,
+    );
+    tell_truth(k, truth);
+}
+
 // The calls that ask, and a remark.
 fn ask(
     words: &[u64],
@@ -267,6 +285,7 @@ fn ask(
     match line[0] {
         b'r' => read(words, map, bytes, elems, scratch, given),
         b'v' => eqv(words, map, bytes, elems, given),
+        b'q' => equal(words, map, bytes, elems, scratch, given),
         b'd' => dump(words, map, bytes, elems),
         b'#' => {
             io::write_all(1, line);
