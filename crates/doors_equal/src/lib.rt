@@ -169,7 +169,16 @@ pub fn equal(
     }
     let first = heap_given::given_value(kind, a);
     match first {
-        heap_given::ValueAnswer::Given(v) => equal_second(words, map, bytes, elems, scratch, v, kind2, a2),
+        heap_given::ValueAnswer::Given(v) => equal_second(
+            words,
+            map,
+            bytes,
+            elems,
+            scratch,
+            v,
+            kind2,
+            a2,
+        ),
         heap_given::ValueAnswer::Malformed(f) => {
             leaf_clear::clear_words(scratch);
             EqualAnswer::Malformed(f)

@@ -253,7 +253,14 @@ fn dump(words: &[u64], map: &[u8], bytes: &[u8], elems: &[u64]) {
 }
 
 // "q KIND A KIND A"
-fn equal(words: &[u64], map: &[u8], bytes: &[u8], elems: &[u64], scratch: &mut [u64], given: &[u64]) {
+fn equal(
+    words: &[u64],
+    map: &[u8],
+    bytes: &[u8],
+    elems: &[u64],
+    scratch: &mut [u64],
+    given: &[u64],
+) {
     let mut truth = 0;
     let k = c_doors::talvongre_equal(
         words,
