@@ -1,0 +1,3 @@
+pub mod Taken
+pub mod Histories
+pub mod Lines

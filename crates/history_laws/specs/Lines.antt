@@ -1,0 +1,100 @@
+-- The line that the heap keeps, at one moment of a history: the slots in use are the set worked out from the calls, every other
+-- slot stands once on the free list, and what each next call may do to them. Document 01: "A refusal answers its number only, and
+-- leaves heap and output as they stood", "the free list holds each Free slot once"; demands 2 and 3 of its readers: the slots that a
+-- put takes are those that the rule gives, and what is kept reads as before. Assumes nothing.
+use mathlib.Core.Path.{_≡_}
+use mathlib.Core.Bool.{true}
+use mathlib.Core.List.{List}
+use mathlib.Core.Logic.{_↔_}
+use mathlib.Core.Option.{some}
+use Prim.Native.Nat.{ℕ, _≤_, _<_}
+use lib.ListN.{length, getD}
+use Rattle.laws.specs.Basics.{count, member}
+use Rattle.rules.specs.Refusals.{accepted}
+use Rattle.rules.specs.Nodes.{bytes}
+use Rattle.rules.specs.Cells.{Scalar, undefined, Value, slot, scalar, Cell}
+use Rattle.rules.specs.Heap.{Heap, capacity, cell-at, in-use, text-of, elements-of}
+use Rattle.rules.specs.Layout.{heap-of}
+use Rattle.rules.specs.Read.{reading}
+use Rattle.rules.specs.Sound.{text-block, vector-block, sound}
+use Rattle.rules.specs.Calls as Calls
+use Rattle.rules.specs.Calls.{put-call, collect-call, given-cell, given-value, element-place}
+use Rattle.collect_laws.specs.Collects.{Collects}
+use Rattle.history_laws.specs.Taken.{slots-given, slots-taken}
+use Rattle.history_laws.specs.Histories.{Call, put, collect, cell-store, element-store, Slots, Moment, after, Refuses}
+
+abbrev pub heap-at : Moment → Heap
+heap-at m = heap-of (m .lent)
+
+-- a scalar, or a slot of the set
+pub data Held (set : Slots) : Value → Type 0 where
+  no-slot : {x : Scalar} → Held set (scalar x)
+  at-slot : {s : ℕ} → set s → Held set (slot s)
+
+-- ---- an accepted put
+
+-- `new` are the slots that the written rule gives to its new cells
+pub record Put-line (m n : Moment) (new : List ℕ) (answer : ℕ) : Type 0 where
+  -- no new cell gets a slot of the set, or one that another new cell has
+  pub fresh : (s : ℕ) → member s new ≡ true → m .set s → ⊥
+  pub once : (s : ℕ) → count s new ≤ 1
+  -- they are the next ones that allocation gives
+  pub next : new ≡ slots-given (length new) (heap-at m)
+  pub in-set : n .set answer
+  -- a slot of the set shows what it showed, and reads as it read
+  pub cells : (s : ℕ) → m .set s → cell-at (heap-at n) s ≡ cell-at (heap-at m) s
+  pub texts : (s : ℕ) → m .set s → text-of (heap-at n) (text-block (cell-at (heap-at m) s)) ≡ text-of (heap-at m) (text-block (cell-at (heap-at m) s))
+  pub vectors : (s : ℕ) → m .set s → elements-of (heap-at n) (vector-block (cell-at (heap-at m) s)) ≡ elements-of (heap-at m) (vector-block (cell-at (heap-at m) s))
+  pub reads : (v : Value) → Held (m .set) v → reading (heap-at n) v ≡ reading (heap-at m) v
+
+-- ---- an accepted collection
+
+pub record Collect-line (m n : Moment) (roots : List ℕ) : Type 0 where
+  pub collected : Collects (heap-at m) roots (heap-at n)
+  -- what is kept reads as it read
+  pub reads : (v : Value) → Held (n .set) v → reading (heap-at n) v ≡ reading (heap-at m) v
+
+-- ---- an accepted store: one cell, or one element, and nothing else
+
+-- all but the cells and the elements
+pub record Rest-same (h k : Heap) : Type 0 where
+  pub chunk : k .chunk ≡ h .chunk
+  pub map : k .map ≡ h .map
+  pub free : k .free ≡ h .free
+  pub table : k .table ≡ h .table
+  pub bytes : k .bytes ≡ h .bytes
+
+pub record Cell-line (h k : Heap) (s : ℕ) (c : Cell) : Type 0 where
+  pub here : cell-at k s ≡ c
+  pub others : (t : ℕ) → (t ≡ s → ⊥) → cell-at k t ≡ cell-at h t
+  pub size : capacity k ≡ capacity h
+  pub elements : k .elements ≡ h .elements
+  pub rest : Rest-same h k
+
+pub record Element-line (h k : Heap) (place : ℕ) (v : Value) : Type 0 where
+  pub here : getD (k .elements) place (scalar undefined) ≡ v
+  pub others : (j : ℕ) → (j ≡ place → ⊥) → getD (k .elements) j (scalar undefined) ≡ getD (h .elements) j (scalar undefined)
+  pub size : length (k .elements) ≡ length (h .elements)
+  pub cells : k .cells ≡ h .cells
+  pub rest : Rest-same h k
+
+-- ---- the line
+
+pub record Line (m : Moment) : Type 1 where
+  pub lists-sound : sound (m .lent) ≡ true
+  -- the slots in use are the set, and every other slot below the capacity stands once on the free list
+  pub used : (s : ℕ) → (in-use (heap-at m) s ≡ true) ↔ m .set s
+  pub free-once : (s : ℕ) → s < capacity (heap-at m) → (m .set s → ⊥) → count s (heap-at m .free) ≡ 1
+  pub not-free : (s : ℕ) → m .set s → count s (heap-at m .free) ≡ 0
+  pub none-past : (s : ℕ) → capacity (heap-at m) ≤ s → count s (heap-at m .free) ≡ 0
+  -- what the next call does
+  pub puts : (scratch datum : List ℕ) (b : bytes datum ≡ true) (answer : ℕ) → put-call (m .lent) scratch datum .answer ≡ accepted answer
+      → Put-line m (after (put scratch datum b) m) (slots-taken datum (heap-at m)) answer
+  pub collects : (scratch roots : List ℕ) → collect-call (m .lent) scratch roots .answer ≡ accepted tt
+      → Collect-line m (after (collect scratch roots) m) roots
+  pub cell-stores : (s kind a b : ℕ) (c : Cell) → given-cell kind a b ≡ accepted c → Calls.cell-store (m .lent) s kind a b .answer ≡ accepted tt
+      → Cell-line (heap-at m) (heap-at (after (cell-store s kind a b) m)) s c
+  pub element-stores : (s k kind a : ℕ) (v : Value) → given-value kind a ≡ accepted v → (place : ℕ) → element-place (cell-at (heap-at m) s) k ≡ some place
+      → Calls.element-store (m .lent) s k kind a .answer ≡ accepted tt
+      → Element-line (heap-at m) (heap-at (after (element-store s k kind a) m)) place v
+  pub refusals : (c : Call) → Refuses (m .lent) c → after c m ≡ m
