@@ -1,2 +1,4 @@
 pub mod Supplies
 pub mod TakenSlots
+pub mod AcceptedPut
+pub mod ReadAfterPut

@@ -160,7 +160,7 @@ takes-to x p = record { left = p ∙ x .left; slots = x .slots }
 
 -- ---- in a good heap
 
-count-none : (s : ℕ) (l : List ℕ) → (member s l ≡ true → ⊥) → count s l ≡ 0
+pub count-none : (s : ℕ) (l : List ℕ) → (member s l ≡ true → ⊥) → count s l ≡ 0
 unfolding basics
 count-none s [] p = refl
 count-none s (x ∷ l) p =
