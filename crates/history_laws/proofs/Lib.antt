@@ -2,3 +2,4 @@ pub mod Supplies
 pub mod TakenSlots
 pub mod AcceptedPut
 pub mod ReadAfterPut
+pub mod StoredParts

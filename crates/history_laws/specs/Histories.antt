@@ -24,7 +24,7 @@ pub data Call : Type 0 where
   put : (scratch datum : List ℕ) → bytes datum ≡ true → Call
   collect : (scratch roots : List ℕ) → Call
   cell-store : (s kind a b : ℕ) → Call
-  element-store : (s k kind a : ℕ) → Call
+  element-store : (s i kind a : ℕ) → Call
   read : (scratch out : List ℕ) (kind a : ℕ) → Call
   eqv : (kind a kind′ a′ : ℕ) → Call
   equal : (scratch : List ℕ) (kind a kind′ a′ : ℕ) → Call
@@ -38,7 +38,7 @@ lists-after (setup chunk) l = Calls.setup chunk l .lent
 lists-after (put scratch datum b) l = put-call l scratch datum .lent
 lists-after (collect scratch roots) l = collect-call l scratch roots .lent
 lists-after (cell-store s kind a b) l = Calls.cell-store l s kind a b .lent
-lists-after (element-store s k kind a) l = Calls.element-store l s k kind a .lent
+lists-after (element-store s i kind a) l = Calls.element-store l s i kind a .lent
 lists-after (read scratch out kind a) l = l
 lists-after (eqv kind a kind′ a′) l = l
 lists-after (equal scratch kind a kind′ a′) l = l
@@ -62,7 +62,7 @@ set-after (put scratch datum b) l set =
 set-after (collect scratch roots) l set =
     of-answer (collect-call l scratch roots .answer) (λ a s. set s × Reached (heap-of l) roots s) (λ r. set)
 set-after (cell-store s kind a b) l set = set
-set-after (element-store s k kind a) l set = set
+set-after (element-store s i kind a) l set = set
 set-after (read scratch out kind a) l set = set
 set-after (eqv kind a kind′ a′) l set = set
 set-after (equal scratch kind a kind′ a′) l set = set
@@ -99,7 +99,7 @@ pub data Refuses (l : Lent) : Call → Type 0 where
   put-refused : {scratch datum : List ℕ} {b : bytes datum ≡ true} (r : Refusal) → put-call l scratch datum .answer ≡ refused r → Refuses l (put scratch datum b)
   collect-refused : {scratch roots : List ℕ} (r : Refusal) → collect-call l scratch roots .answer ≡ refused r → Refuses l (collect scratch roots)
   cell-store-refused : {s kind a b : ℕ} (r : Refusal) → Calls.cell-store l s kind a b .answer ≡ refused r → Refuses l (cell-store s kind a b)
-  element-store-refused : {s k kind a : ℕ} (r : Refusal) → Calls.element-store l s k kind a .answer ≡ refused r → Refuses l (element-store s k kind a)
+  element-store-refused : {s i kind a : ℕ} (r : Refusal) → Calls.element-store l s i kind a .answer ≡ refused r → Refuses l (element-store s i kind a)
 
 unfoldable pub history-rules : Unit {0}
 unfolding lists-after set-after after after-all

@@ -64,15 +64,21 @@ pub record Rest-same (h k : Heap) : Type 0 where
   pub table : k .table ≡ h .table
   pub bytes : k .bytes ≡ h .bytes
 
-pub record Cell-line (h k : Heap) (s : ℕ) (c : Cell) : Type 0 where
-  pub here : cell-at k s ≡ c
+pub record Cell-line (h k : Heap) (s kind a b : ℕ) : Type 0 where
+  pub cell : Cell
+  pub given : given-cell kind a b ≡ accepted cell
+  pub here : cell-at k s ≡ cell
   pub others : (t : ℕ) → (t ≡ s → ⊥) → cell-at k t ≡ cell-at h t
   pub size : capacity k ≡ capacity h
   pub elements : k .elements ≡ h .elements
   pub rest : Rest-same h k
 
-pub record Element-line (h k : Heap) (place : ℕ) (v : Value) : Type 0 where
-  pub here : getD (k .elements) place (scalar undefined) ≡ v
+pub record Element-line (h k : Heap) (s i kind a : ℕ) : Type 0 where
+  pub value : Value
+  pub given : given-value kind a ≡ accepted value
+  pub place : ℕ
+  pub at : element-place (cell-at h s) i ≡ some place
+  pub here : getD (k .elements) place (scalar undefined) ≡ value
   pub others : (j : ℕ) → (j ≡ place → ⊥) → getD (k .elements) j (scalar undefined) ≡ getD (h .elements) j (scalar undefined)
   pub size : length (k .elements) ≡ length (h .elements)
   pub cells : k .cells ≡ h .cells
@@ -92,9 +98,8 @@ pub record Line (m : Moment) : Type 1 where
       → Put-line m (after (put scratch datum b) m) (slots-taken datum (heap-at m)) answer
   pub collects : (scratch roots : List ℕ) → collect-call (m .lent) scratch roots .answer ≡ accepted tt
       → Collect-line m (after (collect scratch roots) m) roots
-  pub cell-stores : (s kind a b : ℕ) (c : Cell) → given-cell kind a b ≡ accepted c → Calls.cell-store (m .lent) s kind a b .answer ≡ accepted tt
-      → Cell-line (heap-at m) (heap-at (after (cell-store s kind a b) m)) s c
-  pub element-stores : (s k kind a : ℕ) (v : Value) → given-value kind a ≡ accepted v → (place : ℕ) → element-place (cell-at (heap-at m) s) k ≡ some place
-      → Calls.element-store (m .lent) s k kind a .answer ≡ accepted tt
-      → Element-line (heap-at m) (heap-at (after (element-store s k kind a) m)) place v
+  pub cell-stores : (s kind a b : ℕ) → Calls.cell-store (m .lent) s kind a b .answer ≡ accepted tt
+      → Cell-line (heap-at m) (heap-at (after (cell-store s kind a b) m)) s kind a b
+  pub element-stores : (s i kind a : ℕ) → Calls.element-store (m .lent) s i kind a .answer ≡ accepted tt
+      → Element-line (heap-at m) (heap-at (after (element-store s i kind a) m)) s i kind a
   pub refusals : (c : Call) → Refuses (m .lent) c → after c m ≡ m
