@@ -6,13 +6,14 @@ use mathlib.Core.Bool.{true}
 use mathlib.Core.List.{List, [], _∷_}
 use mathlib.Core.Logic.{_⊎_}
 use Prim.Native.Nat.{ℕ}
-use Rattle.laws.specs.Basics.{member, basics}
-use Rattle.rules.specs.Refusals.{Refusal, Answer, refused}
+use Rattle.laws.specs.Basics.{member}
+use Rattle.rules.specs.Refusals.{Refusal, refused}
 use Rattle.rules.specs.Nodes.{bytes}
 use Rattle.rules.specs.Collect.{Reached}
-use Rattle.rules.specs.Layout.{Lent, heap-of, layout-rules}
+use Rattle.rules.specs.Heap.{Heap}
+use Rattle.rules.specs.Layout.{Lent, heap-of}
 use Rattle.rules.specs.Calls as Calls
-use Rattle.rules.specs.Calls.{of-answer, put-call, collect-call, call-rules}
+use Rattle.rules.specs.Calls.{of-answer, put-call, collect-call}
 use Rattle.history_laws.specs.Taken.{slots-taken}
 
 -- ---- the calls
@@ -33,7 +34,6 @@ pub data Call : Type 0 where
 
 -- the heap's lists after a call; those that only look are lent them to read
 unfoldable pub lists-after : Call → Lent → Lent
-unfolding call-rules
 lists-after (setup chunk) l = Calls.setup chunk l .lent
 lists-after (put scratch datum b) l = put-call l scratch datum .lent
 lists-after (collect scratch roots) l = collect-call l scratch roots .lent
@@ -52,15 +52,27 @@ lists-after used-count l = l
 abbrev pub Slots : Type 1
 Slots = ℕ → Type 0
 
+-- no slot
+abbrev pub no-slots : Slots
+no-slots s = ⊥
+
+-- with these slots too
+abbrev pub with-slots : Slots → List ℕ → Slots
+with-slots set new s = set s ⊎ (member s new ≡ true)
+
+-- those of them that the roots reach
+abbrev pub reached-of : Slots → Heap → List ℕ → Slots
+reached-of set h roots s = set s × Reached h roots s
+
 -- accepted, a setup empties the set, a put adds what the written rule gives, and a collection keeps exactly what its roots reach;
 -- a refused call and every other call leave it
 unfoldable pub set-after : Call → Lent → Slots → Slots
-unfolding call-rules layout-rules slots-taken basics
-set-after (setup chunk) l set = of-answer (Calls.setup chunk l .answer) (λ a s. ⊥) (λ r. set)
+unfolding of-answer
+set-after (setup chunk) l set = of-answer (Calls.setup chunk l .answer) (λ a. no-slots) (λ r. set)
 set-after (put scratch datum b) l set =
-    of-answer (put-call l scratch datum .answer) (λ a s. set s ⊎ (member s (slots-taken datum (heap-of l)) ≡ true)) (λ r. set)
+    of-answer (put-call l scratch datum .answer) (λ a. with-slots set (slots-taken datum (heap-of l))) (λ r. set)
 set-after (collect scratch roots) l set =
-    of-answer (collect-call l scratch roots .answer) (λ a s. set s × Reached (heap-of l) roots s) (λ r. set)
+    of-answer (collect-call l scratch roots .answer) (λ a. reached-of set (heap-of l) roots) (λ r. set)
 set-after (cell-store s kind a b) l set = set
 set-after (element-store s i kind a) l set = set
 set-after (read scratch out kind a) l set = set
