@@ -5,3 +5,6 @@ pub mod ReadAfterPut
 pub mod PutFacts
 pub mod StoredParts
 pub mod Refused
+pub mod FreshLists
+pub mod Moments
+pub mod LineKept
