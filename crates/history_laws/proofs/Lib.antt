@@ -6,5 +6,6 @@ pub mod PutFacts
 pub mod StoredParts
 pub mod Refused
 pub mod FreshLists
+pub mod SameValues
 pub mod Moments
 pub mod LineKept

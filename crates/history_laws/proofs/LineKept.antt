@@ -9,19 +9,17 @@ use native.Mathlib.Omega.{arith}
 use Rattle.laws.specs.Basics.{count}
 use Rattle.rules.specs.Refusals.{accepted}
 use Rattle.rules.specs.Nodes.{bytes}
-use Rattle.rules.specs.Cells.{Value}
 use Rattle.rules.specs.Heap.{capacity, in-use}
+use Rattle.rules.specs.Layout.{Lent, heap-of}
 use Rattle.rules.specs.Sound.{sound}
-use Rattle.rules.specs.Read.{reading}
 use Rattle.rules.specs.Calls as Calls
-use Rattle.rules.specs.Calls.{put-call, collect-call, value-in-use}
+use Rattle.rules.specs.Calls.{put-call, collect-call}
 use Rattle.rules.proofs.Good.{Good, used-slot, not-used}
 use Rattle.rules.proofs.GoodSound.{sound-good}
-use Rattle.collect_laws.specs.Kept as Kept
-use Rattle.collect_laws.specs.Kept.{Reached-value}
 use Rattle.history_laws.specs.Taken.{slots-taken}
-use Rattle.history_laws.specs.Histories.{Call, setup, put, collect, Slots, reached-of, Moment, moment, lists-after, set-after, after, after-all}
-use Rattle.history_laws.specs.Lines.{heap-at, Held, no-slot, at-slot, Put-line, Collect-line, Line}
+use Rattle.history_laws.specs.Histories.{Call, setup, put, collect, Slots, Moment, moment, after, after-all, history-rules}
+use Rattle.history_laws.specs.Lines.{heap-at, Put-line, Collect-line, Line}
+use Rattle.history_laws.proofs.SameValues.{same-fewer, collected-same}
 use Rattle.history_laws.proofs.PutFacts.{put-puts}
 use Rattle.history_laws.proofs.StoredParts.{cell-stored, element-stored}
 use Rattle.history_laws.proofs.Refused.{refused-same}
@@ -46,42 +44,35 @@ module _ (m : Moment) (z : Holds m) where
 
   -- ---- a put
 
-  held-used : (v : Value) → Held (m .set) v → value-in-use (heap-at m) v ≡ true
-  unfolding value-in-use
-  held-used v no-slot = refl
-  held-used v (at-slot {s} x) = z .used s .1 x
-
   put-line : (scratch datum : List ℕ) (b : bytes datum ≡ true) (answer : ℕ) → put-call (m .lent) scratch datum .answer ≡ accepted answer → Put-line m (after (put scratch datum b) m) (slots-taken datum (heap-at m)) answer
-  unfolding after lists-after
+  unfolding history-rules
   put-line scratch datum b answer e =
       let p = put-puts (m .lent) scratch datum b answer e in
       record {
         fresh = λ s new x. p .fresh s new (z .used s .1 x);
         once = p .once;
         next = p .next;
+        counted = p .counted;
         in-set = call-holds m z (put scratch datum b) .used answer .0 (p .answered);
         cells = λ s x. p .cells s (z .used s .1 x);
-        texts = λ s x. p .texts s;
-        vectors = λ s x. p .vectors s;
-        reads = λ v x. p .reads v (held-used v x);
+        same = same-fewer (p .same) (λ s x. z .used s .1 x);
       }
 
   -- ---- a collection
 
   collect-line : (scratch roots : List ℕ) → collect-call (m .lent) scratch roots .answer ≡ accepted tt → Collect-line m (after (collect scratch roots) m) roots
-  unfolding after lists-after
+  unfolding history-rules
   collect-line scratch roots e =
       let c = collect-was (m .lent) scratch roots e .collected in
-      record { collected = c; reads = λ v x. c .reads v (reached v (subst (λ (set : Slots). Held set v) (reduced m scratch roots e) x)) }
-    where
-      reached : (v : Value) → Held (reached-of (m .set) (heap-at m) roots) v → Reached-value (heap-at m) roots v
-      reached v no-slot = Kept.no-slot
-      reached v (at-slot x) = Kept.at-slot (x .1)
+      record {
+        collected = c;
+        same = same-fewer (collected-same c) (λ s x. (subst (λ (set : Slots). set s) (reduced m scratch roots e) x) .1);
+      }
 
   -- ---- the line
 
   pub line : Line m
-  unfolding after lists-after
+  unfolding history-rules
   line =
       record {
         lists-sound = z .lists-sound;
@@ -96,13 +87,16 @@ module _ (m : Moment) (z : Holds m) where
         refusals = refused-same m;
       }
 
--- any lists and any set before; an accepted setup, and then any calls
-pub line-kept : (m : Moment) (chunk : ℕ) → Calls.setup chunk (m .lent) .answer ≡ accepted tt → (calls : List Call) → Line (after-all (setup chunk ∷ calls) m)
-unfolding after-all
-line-kept m chunk e calls =
-    let start = after (setup chunk) m in
-    line (after-all calls start) (all-hold calls start (setup-holds m chunk e))
-
--- and so from any sound lists, the set being then the slots in use
-pub line-from : (m : Moment) → Holds m → (calls : List Call) → Line (after-all calls m)
+-- from a moment at which the lists are sound and the slots in use are the set
+line-from : (m : Moment) → Holds m → (calls : List Call) → Line (after-all calls m)
 line-from m z calls = line (after-all calls m) (all-hold calls m z)
+
+-- any lists and any set before; an accepted setup, and then any calls. Each beginning of a history is one too: so at every moment.
+pub line-kept : (m : Moment) (chunk : ℕ) → Calls.setup chunk (m .lent) .answer ≡ accepted tt → (calls : List Call) → Line (after-all (setup chunk ∷ calls) m)
+unfolding history-rules
+line-kept m chunk e calls = line-from (after (setup chunk) m) (setup-holds m chunk e) calls
+
+-- and so from any sound lists, whose set is the slots in use
+pub line-of-sound : (l : Lent) → sound l ≡ true → (calls : List Call) → Line (after-all calls (moment l (λ s. in-use (heap-of l) s ≡ true)))
+line-of-sound l e calls =
+    line-from (moment l (λ s. in-use (heap-of l) s ≡ true)) (record { lists-sound = e; used = λ s. (λ u. u, λ u. u) }) calls

@@ -4,39 +4,36 @@ use mathlib.Core.Path.{_≡_, refl, sym, ap, _∙_, subst}
 use mathlib.Core.Bool.{true}
 use mathlib.Core.List.{List, []}
 use mathlib.Core.Logic.{_↔_, _⊎_, inl, inr, ⊎-elim}
-use Prim.Native.Nat.{ℕ, _≤_}
+use Prim.Native.Nat.{ℕ, _+_, _≤_}
 use lib.ListN.{length}
 use Rattle.laws.specs.Basics.{count, member}
 use Rattle.rules.specs.Refusals.{accepted}
 use Rattle.rules.specs.Nodes.{bytes}
 use Rattle.rules.specs.Datum.{Datum, Parse, good, bad, parse}
-use Rattle.rules.specs.Cells.{Value}
-use Rattle.rules.specs.Heap.{Heap, cell-at, in-use, text-of, elements-of}
+use Rattle.rules.specs.Heap.{Heap, cell-at, in-use, used-count}
 use Rattle.rules.specs.Layout.{Lent, heap-of}
-use Rattle.rules.specs.Sound.{text-block, vector-block}
-use Rattle.rules.specs.Read.{reading}
 use Rattle.rules.specs.Put.{put-datum, slot-in}
-use Rattle.rules.specs.Calls.{put-call, value-in-use}
+use Rattle.rules.specs.Calls.{put-call}
 use Rattle.rules.proofs.Good.{Good}
 use Rattle.rules.proofs.Monotone.{put-datum-more}
 use Rattle.rules.proofs.PutGood.{Kept}
 use Rattle.rules.proofs.GoodSound.{sound-good}
 use Rattle.history_laws.specs.Taken.{slots-given, datum-taken, slots-taken}
-use Rattle.history_laws.proofs.Supplies.{allocs, same-used, next-given, gave}
+use Rattle.history_laws.specs.Lines.{Same-values}
+use Rattle.history_laws.proofs.Supplies.{allocs, same-used, same-count, next-given, gave}
 use Rattle.history_laws.proofs.TakenSlots.{datum-takes}
 use Rattle.history_laws.proofs.AcceptedPut.{put-was}
-use Rattle.history_laws.proofs.ReadAfterPut.{grown-reading}
+use Rattle.history_laws.proofs.ReadAfterPut.{grown-same}
 
 pub record Puts (h : Heap) (new : List ℕ) (answer : ℕ) (k : Heap) : Type 0 where
   pub exactly : (s : ℕ) → (in-use k s ≡ true) ↔ ((in-use h s ≡ true) ⊎ (member s new ≡ true))
   pub fresh : (s : ℕ) → member s new ≡ true → in-use h s ≡ true → ⊥
   pub once : (s : ℕ) → count s new ≤ 1
   pub next : new ≡ slots-given (length new) h
+  pub counted : used-count k ≡ used-count h + length new
   pub answered : in-use k answer ≡ true
   pub cells : (s : ℕ) → in-use h s ≡ true → cell-at k s ≡ cell-at h s
-  pub texts : (s : ℕ) → text-of k (text-block (cell-at h s)) ≡ text-of h (text-block (cell-at h s))
-  pub vectors : (s : ℕ) → elements-of k (vector-block (cell-at h s)) ≡ elements-of h (vector-block (cell-at h s))
-  pub reads : (v : Value) → value-in-use h v ≡ true → reading k v ≡ reading h v
+  pub same : Same-values (λ s. in-use h s ≡ true) h k
 
 put-does : (h : Heap) → Good h → (d : Datum) → Kept h (put-datum d h) → Puts h (datum-taken d h) (slot-in (put-datum d h)) (put-datum d h .making .heap)
 put-does h g d k =
@@ -50,11 +47,10 @@ put-does h g d k =
       fresh = v .fresh;
       once = v .once;
       next = next-given (t .slots);
+      counted = same-count (allocs new h) after (t .left) ∙ v .counted;
       answered = k .answer;
       cells = k .cells;
-      texts = k .texts;
-      vectors = k .vectors;
-      reads = grown-reading h after g (put-datum-more d h .capacities) (k .cells) (k .texts) (k .vectors);
+      same = grown-same h after g (put-datum-more d h .capacities) (k .cells) (k .texts) (k .vectors);
     }
 
 taken-parsed : (datum : List ℕ) (d : Datum) (h : Heap) → parse datum ≡ good d → slots-taken datum h ≡ datum-taken d h

@@ -1,8 +1,8 @@
--- What is in use reads the same in a heap that has grown, where it shows what it showed: the walk of a reading is bounded by the
+-- What is in use reads and compares the same in a heap that has grown, where it shows what it showed: the walk of a reading is bounded by the
 -- capacity, and any larger bound walks the same way, since a path has each slot once. Document 01, "Reading back". Assumes nothing.
 use mathlib.Core.Path.{_≡_, refl, sym, ap, _∙_, subst}
 use mathlib.Core.Bool.{Bool, true, false}
-use mathlib.Core.List.{List, [], _∷_, List·Memᴰ·head}
+use mathlib.Core.List.{List, [], _∷_, List·Memᴰ·head, List·Memᴰ·tail}
 use Prim.Native.Nat.{ℕ, zero, suc, _+_, _≤_, _<_}
 use native.Mathlib.Omega.{arith}
 use native.Mathlib.Decide.{ℕ-discrete}
@@ -17,11 +17,15 @@ use Rattle.rules.specs.Heap.{Heap, capacity, cell-at, in-use, text-of, elements
 use Rattle.rules.specs.Collect.{Reached, root, next}
 use Rattle.rules.specs.Sound.{text-block, vector-block, sound-rules}
 use Rattle.rules.specs.Read.{Walk, give-label, meet, enter, in-order, walk, labels-for, reading, read-rules}
-use Rattle.rules.specs.Calls.{value-in-use, call-rules}
 use Rattle.rules.proofs.Good.{Good, used-slot, each-once}
-use Rattle.collect_laws.specs.Kept.{As-before, same-scalar, same-pair, symbol-moved, string-moved, vector-moved, Reached-value, no-slot, at-slot}
+use Rattle.collect_laws.specs.Kept.{As-before, same-scalar, same-pair, symbol-moved, string-moved, vector-moved, Reached-value}
+use Rattle.collect_laws.specs.Kept as Kept
+use Rattle.collect_laws.proofs.Collected.{same-text, same-elements}
 use Rattle.collect_laws.proofs.Leading.{marked-in-use, is-marked}
 use Rattle.collect_laws.proofs.Reading.{Led, pair-led, vector-led, in-order-same, walk-same, same-by-labels}
+use Rattle.collect_laws.proofs.Comparing.{same-eqv, same-equal}
+use Rattle.history_laws.specs.Histories.{Slots}
+use Rattle.history_laws.specs.Lines.{Held, no-slot, at-slot, Same-values}
 use Rattle.history_laws.proofs.Supplies.{count-none}
 
 -- ---- a path
@@ -99,7 +103,7 @@ module _ (h : Heap) (g : Good h) (roots : List ℕ) (u : every (in-use h) roots 
   walk-enough zero m path p l k v w r = absurd (omega (arith, path-most h path p))
   walk-enough (suc n) zero path p l k v w r = absurd (omega (arith, path-most h path p))
   walk-enough (suc n) (suc m) path p l k (scalar x) w r = refl
-  walk-enough (suc n) (suc m) path p l k (slot s) w (at-slot r) =
+  walk-enough (suc n) (suc m) path p l k (slot s) w (Kept.at-slot r) =
       by
       (λ new.
       walk-enough n m (s ∷ path) (longer-path h path s p (used-slot h s (reached-used s r) .below) new) (omega arith) (omega arith))
@@ -138,16 +142,49 @@ module _ (h k : Heap) (g : Good h) (more : capacity h ≤ capacity k)
       by (string b) t v = string-moved b b refl t
       by (vector b) t v = vector-moved b b refl v
 
+  abbrev Used : Slots
+  Used s = in-use h s ≡ true
+
+  stays : (roots : List ℕ) → every (in-use h) roots ≡ true → (s : ℕ) → Reached h roots s → As-before h k (cell-at h s) (cell-at k s)
+  stays roots u s r = as-it-was s (reached-used h g roots u s r)
+
   from-roots : (roots : List ℕ) → every (in-use h) roots ≡ true → (v : Value) → Reached-value h roots v → reading k v ≡ reading h v
   unfolding labels-for
   from-roots roots u v x =
-      let same : (s : ℕ) → Reached h roots s → As-before h k (cell-at h s) (cell-at k s) = λ s r. as-it-was s (reached-used h g roots u s r) in
+      let same = stays roots u in
       same-by-labels h k roots same v x
       (ap (λ (w : Walk). w .labels)
       (walk-same h k roots same (suc (capacity k)) [] v (record { met = []; labels = [] }) x
       ∙ walk-enough h g roots u (suc (capacity k)) (suc (capacity h)) [] (no-path h) (omega arith) (omega arith) v (record { met = []; labels = [] }) x))
 
-  pub grown-reading : (v : Value) → value-in-use h v ≡ true → reading k v ≡ reading h v
-  unfolding call-rules basics
-  grown-reading (scalar x) u = from-roots [] refl (scalar x) no-slot
-  grown-reading (slot s) u = from-roots (s ∷ []) (both-true u refl) (slot s) (at-slot (root (List·Memᴰ·head refl)))
+  -- two values in use, as what two roots reach
+  record Two-roots (v w : Value) : Type 0 where
+    roots : List ℕ
+    roots-used : every (in-use h) roots ≡ true
+    first : Reached-value h roots v
+    second : Reached-value h roots w
+
+  two-roots : (v w : Value) → Held Used v → Held Used w → Two-roots v w
+  unfolding basics
+  two-roots v w no-slot no-slot = record { roots = []; roots-used = refl; first = Kept.no-slot; second = Kept.no-slot }
+  two-roots v w no-slot (at-slot {s = t} u) =
+      record { roots = t ∷ []; roots-used = both-true u refl; first = Kept.no-slot; second = Kept.at-slot (root (List·Memᴰ·head refl)) }
+  two-roots v w (at-slot {s} u) no-slot =
+      record { roots = s ∷ []; roots-used = both-true u refl; first = Kept.at-slot (root (List·Memᴰ·head refl)); second = Kept.no-slot }
+  two-roots v w (at-slot {s} u) (at-slot {s = t} x) =
+      record {
+        roots = s ∷ t ∷ [];
+        roots-used = both-true u (both-true x refl);
+        first = Kept.at-slot (root (List·Memᴰ·head refl));
+        second = Kept.at-slot (root (List·Memᴰ·tail (List·Memᴰ·head refl)));
+      }
+
+  pub grown-same : Same-values Used h k
+  grown-same =
+      record {
+        texts = λ s u. same-text h k (as-it-was s u);
+        vectors = λ s u. same-elements h k (as-it-was s u);
+        reads = λ v x. let r = two-roots v v x x in from-roots (r .roots) (r .roots-used) v (r .first);
+        compares = λ v w x y. let r = two-roots v w x y in same-eqv h k (r .roots) (stays (r .roots) (r .roots-used)) (r .first) (r .second);
+        equals = λ v w x y. let r = two-roots v w x y in same-equal h k (r .roots) (stays (r .roots) (r .roots-used)) (r .first) (r .second);
+      }

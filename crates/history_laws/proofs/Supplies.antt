@@ -15,7 +15,7 @@ use Rattle.laws.proofs.Tests.{true≢false}
 use Rattle.laws.proofs.Pointwise.{count-here, count-other}
 use Rattle.rules.specs.Map.{is-allocated, set-state, Allocated}
 use Rattle.rules.specs.Cells.{undefined, plain}
-use Rattle.rules.specs.Heap.{Heap, capacity, in-use, grown, grow, pop, alloc, heap-rules}
+use Rattle.rules.specs.Heap.{Heap, capacity, in-use, used-count, grown, grow, pop, alloc, heap-rules}
 use Rattle.rules.proofs.Good.{Good}
 use Rattle.rules.proofs.Allocate.{pop-by, prepared-by, took}
 use Rattle.collect_laws.proofs.Reach.{member-cases, first-member, later-member}
@@ -103,6 +103,9 @@ module _ (h k : Heap) (same : supply-of k ≡ supply-of h) where
   pub same-used : (s : ℕ) → in-use k s ≡ in-use h s
   same-used s = ap (λ (p : Supply). both (ltb s (p .size)) (is-allocated (p .map) s)) same
 
+  pub same-count : used-count k ≡ used-count h
+  same-count = ap (λ (p : Supply). p .size - length (p .free)) same
+
 -- ---- one slot after the other
 
 -- as many allocations as there are slots in the list
@@ -177,6 +180,7 @@ pub record Gave (h : Heap) (new : List ℕ) (k : Heap) : Type 0 where
   pub only : (s : ℕ) → in-use k s ≡ true → (in-use h s ≡ true) ⊎ (member s new ≡ true)
   pub fresh : (s : ℕ) → member s new ≡ true → in-use h s ≡ true → ⊥
   pub once : (s : ℕ) → count s new ≤ 1
+  pub counted : used-count k ≡ used-count h + length new
 
 pub gave : {h : Heap} {new : List ℕ} → Good h → Next-slots h new → Gave h new (allocs new h)
 unfolding allocs basics
@@ -188,6 +192,7 @@ gave g no-more =
       only = λ s u. inl u;
       fresh = λ s m. absurd (true≢false (sym m));
       once = λ s. omega arith;
+      counted = omega arith;
     }
 gave {h} g (one-next {s = x} {ss = ss} e r) =
     let t = took h g in
@@ -220,4 +225,5 @@ gave {h} g (one-next {s = x} {ss = ss} e r) =
                 )
             | no d ↦ omega (arith, count-other s x ss d, k .once s)
           ];
+      counted = omega (arith, k .counted, t .count);
     }

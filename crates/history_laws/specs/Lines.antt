@@ -3,19 +3,20 @@
 -- leaves heap and output as they stood", "the free list holds each Free slot once"; demands 2 and 3 of its readers: the slots that a
 -- put takes are those that the rule gives, and what is kept reads as before. Assumes nothing.
 use mathlib.Core.Path.{_≡_}
-use mathlib.Core.Bool.{true}
+use mathlib.Core.Bool.{Bool, true}
 use mathlib.Core.List.{List}
 use mathlib.Core.Logic.{_↔_}
 use mathlib.Core.Option.{some}
-use Prim.Native.Nat.{ℕ, _≤_, _<_}
+use Prim.Native.Nat.{ℕ, _+_, _≤_, _<_}
 use lib.ListN.{length, getD}
 use Rattle.laws.specs.Basics.{count, member}
 use Rattle.rules.specs.Refusals.{accepted}
 use Rattle.rules.specs.Nodes.{bytes}
 use Rattle.rules.specs.Cells.{Scalar, undefined, Value, slot, scalar, Cell}
-use Rattle.rules.specs.Heap.{Heap, capacity, cell-at, in-use, text-of, elements-of}
+use Rattle.rules.specs.Heap.{Heap, capacity, cell-at, in-use, text-of, elements-of, used-count}
 use Rattle.rules.specs.Layout.{heap-of}
 use Rattle.rules.specs.Read.{reading}
+use Rattle.rules.specs.Equal.{eqv, Equal}
 use Rattle.rules.specs.Sound.{text-block, vector-block, sound}
 use Rattle.rules.specs.Calls as Calls
 use Rattle.rules.specs.Calls.{put-call, collect-call, given-cell, given-value, element-place}
@@ -31,6 +32,14 @@ pub data Held (set : Slots) : Value → Type 0 where
   no-slot : {x : Scalar} → Held set (scalar x)
   at-slot : {s : ℕ} → set s → Held set (slot s)
 
+-- what is in the set shows, reads and compares in one heap as it did in the other
+pub record Same-values (set : Slots) (h k : Heap) : Type 0 where
+  pub texts : (s : ℕ) → set s → text-of k (text-block (cell-at k s)) ≡ text-of h (text-block (cell-at h s))
+  pub vectors : (s : ℕ) → set s → elements-of k (vector-block (cell-at k s)) ≡ elements-of h (vector-block (cell-at h s))
+  pub reads : (v : Value) → Held set v → reading k v ≡ reading h v
+  pub compares : (v w : Value) → Held set v → Held set w → eqv k v w ≡ eqv h v w
+  pub equals : (v w : Value) → Held set v → Held set w → (truth : Bool) → Equal k v w truth ↔ Equal h v w truth
+
 -- ---- an accepted put
 
 -- `new` are the slots that the written rule gives to its new cells
@@ -38,21 +47,20 @@ pub record Put-line (m n : Moment) (new : List ℕ) (answer : ℕ) : Type 0 wher
   -- no new cell gets a slot of the set, or one that another new cell has
   pub fresh : (s : ℕ) → member s new ≡ true → m .set s → ⊥
   pub once : (s : ℕ) → count s new ≤ 1
-  -- they are the next ones that allocation gives
+  -- they are the next ones that allocation gives, as many as the used count rises by
   pub next : new ≡ slots-given (length new) (heap-at m)
+  pub counted : used-count (heap-at n) ≡ used-count (heap-at m) + length new
   pub in-set : n .set answer
-  -- a slot of the set shows what it showed, and reads as it read
+  -- no slot of the set gets another cell, and each is read as before
   pub cells : (s : ℕ) → m .set s → cell-at (heap-at n) s ≡ cell-at (heap-at m) s
-  pub texts : (s : ℕ) → m .set s → text-of (heap-at n) (text-block (cell-at (heap-at m) s)) ≡ text-of (heap-at m) (text-block (cell-at (heap-at m) s))
-  pub vectors : (s : ℕ) → m .set s → elements-of (heap-at n) (vector-block (cell-at (heap-at m) s)) ≡ elements-of (heap-at m) (vector-block (cell-at (heap-at m) s))
-  pub reads : (v : Value) → Held (m .set) v → reading (heap-at n) v ≡ reading (heap-at m) v
+  pub same : Same-values (m .set) (heap-at m) (heap-at n)
 
 -- ---- an accepted collection
 
 pub record Collect-line (m n : Moment) (roots : List ℕ) : Type 0 where
   pub collected : Collects (heap-at m) roots (heap-at n)
-  -- what is kept reads as it read
-  pub reads : (v : Value) → Held (n .set) v → reading (heap-at n) v ≡ reading (heap-at m) v
+  -- what is kept is read as before
+  pub same : Same-values (n .set) (heap-at m) (heap-at n)
 
 -- ---- an accepted store: one cell, or one element, and nothing else
 
