@@ -1,21 +1,21 @@
 -- What an accepted put of bytes was: the bytes are a datum, and the lists afterwards hold the heap of its put. Document 01, "What a
 -- caller is told". Assumes nothing.
-use mathlib.Core.Path.{_≡_, refl, sym, ap, _∙_, subst}
+use mathlib.Core.Path.{_≡_, refl}
 use mathlib.Core.Bool.{true, false, not}
 use mathlib.Core.List.{List, [], _∷_}
-use Prim.Native.Nat.{ℕ, _≤_}
+use Prim.Native.Nat.{ℕ}
 use native.Mathlib.Omega.{arith}
 use borrow.Author.Tests.{ltb-false, not-true, not-false}
 use lib.Dec.{leb, ltb}
 use lib.ListN.{length}
-use Rattle.laws.specs.Basics.{every, join, distinct}
+use Rattle.laws.specs.Basics.{join, distinct}
 use Rattle.laws.proofs.Tests.{both-left, both-right}
 use Rattle.rules.specs.Numbers.{most-nodes, most-labels, scratch-words}
-use Rattle.rules.specs.Refusals.{Refusal, unsound, short-scratch, malformed, over-limit, early-label, no-slots, no-room, Answer, accepted, refused, _⇒_}
+use Rattle.rules.specs.Refusals.{Refusal, unsound, short-scratch, malformed, over-limit, early-label, no-slots, no-room, accepted, refused, _⇒_}
 use Rattle.rules.specs.Nodes.{bytes, nodes-rules}
-use Rattle.rules.specs.Datum.{Datum, Parse, good, bad, parse, nodes, node-within, label-of, within-limits, early-reference, datum-fits, datum-rules}
+use Rattle.rules.specs.Datum.{Datum, Parse, good, bad, parse, nodes, label-of, within-limits, early-reference, datum-fits, datum-rules}
 use Rattle.rules.specs.Heap.{Heap, capacity}
-use Rattle.rules.specs.Layout.{Lent, rooms-of, heap-of, lent-of, header, layout-rules}
+use Rattle.rules.specs.Layout.{Lent, rooms-of, heap-of, lent-of}
 use Rattle.rules.specs.Sound.{sound}
 use Rattle.rules.specs.Put.{put-datum, slot-in, slots-short, room-short, put-rules}
 use Rattle.rules.specs.Calls.{Left, left, checked, put-tree, put-call, cleared}

@@ -12,7 +12,7 @@ use Rattle.laws.proofs.Lists.{count-rising-in}
 use Rattle.rules.specs.Numbers.{numbers}
 use Rattle.rules.specs.Refusals.{accepted}
 use Rattle.rules.specs.Cells.{undefined, plain}
-use Rattle.rules.specs.Heap.{Heap, capacity, in-use, fresh, heap-rules}
+use Rattle.rules.specs.Heap.{Heap, in-use, fresh, heap-rules}
 use Rattle.rules.specs.Layout.{Lent, rooms-of, heap-of, lent-of}
 use Rattle.rules.specs.Sound.{setup-numbers, sound}
 use Rattle.rules.specs.Calls.{Set-up, setup}

@@ -8,10 +8,10 @@ use Prim.Native.Nat.{ℕ}
 use lib.Dec.{ltb}
 use lib.ListN.{length}
 use Rattle.laws.specs.Basics.{both}
-use Rattle.rules.specs.Refusals.{Refusal, Answer, accepted, refused}
+use Rattle.rules.specs.Refusals.{Answer, accepted, refused}
 use Rattle.rules.specs.Nodes.{bytes, nodes-rules}
 use Rattle.rules.specs.Map.{is-allocated}
-use Rattle.rules.specs.Heap.{Heap, capacity, in-use}
+use Rattle.rules.specs.Heap.{capacity, in-use}
 use Rattle.rules.specs.Layout.{Lent, heap-of}
 use Rattle.rules.specs.Sound.{sound}
 use Rattle.rules.specs.Calls as Calls
@@ -23,7 +23,7 @@ use Rattle.rules.proofs.StoreSound.{Store-left, cell-store-left, element-store-
 use Rattle.collect_laws.proofs.CollectSound as CollectSound
 use Rattle.collect_laws.proofs.CollectSound.{Collect-accepted, Collect-left, collect-left}
 use Rattle.history_laws.specs.Taken.{slots-taken}
-use Rattle.history_laws.specs.Histories.{Call, setup, put, collect, cell-store, element-store, read, eqv, equal, text, Slots, no-slots, with-slots, reached-of, Moment, moment, lists-after, set-after, after, after-all, Refuses, setup-refused, put-refused, collect-refused, cell-store-refused, element-store-refused}
+use Rattle.history_laws.specs.Histories.{Call, setup, put, collect, cell-store, element-store, read, eqv, equal, text, Slots, no-slots, with-slots, reached-of, Moment, moment, lists-after, set-after, after, after-all, Refuses, setup-refused, put-refused, collect-refused}
 use Rattle.history_laws.specs.Histories as Histories
 use Rattle.history_laws.specs.Lines.{heap-at}
 use Rattle.history_laws.proofs.AcceptedPut.{not-refused}
@@ -86,8 +86,7 @@ module _ (m : Moment) (z : Holds m) where
       (record {
         lists-sound = put-keeps-sound (m .lent) scratch datum b (z .lists-sound);
         used =
-            λ s.
-            (
+            λ s. (
               λ u. ⊎-elim (λ x. inl (z .used s .0 x)) (λ x. inr x) (p .exactly s .0 u),
               ⊎-elim (λ x. p .exactly s .1 (inl (z .used s .1 x))) (λ x. p .exactly s .1 (inr x)),
             );
@@ -101,11 +100,10 @@ module _ (m : Moment) (z : Holds m) where
       (record {
         lists-sound = a .lists-sound;
         used =
-            λ s.
-            (
+            λ s. (
               λ u.
-              let r = a .collected .exactly s .0 u in
-              (z .used s .0 (reached-used (heap-at m) (sound-good (m .lent) (z .lists-sound)) roots (a .roots-used) s r), r),
+                  let r = a .collected .exactly s .0 u in
+                  (z .used s .0 (reached-used (heap-at m) (sound-good (m .lent) (z .lists-sound)) roots (a .roots-used) s r), r),
               λ x. a .collected .exactly s .1 (x .1),
             );
       })

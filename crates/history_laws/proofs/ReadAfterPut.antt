@@ -12,11 +12,11 @@ use lib.ListN.{length}
 use Rattle.laws.specs.Basics.{every, count, member, basics}
 use Rattle.laws.proofs.Tests.{true≢false, both-true}
 use Rattle.laws.proofs.Pointwise.{count-here, count-other}
-use Rattle.rules.specs.Cells.{Value, slot, scalar, Block, Cell, plain, pair, symbol, string, vector}
+use Rattle.rules.specs.Cells.{Value, slot, scalar, Cell, plain, pair, symbol, string, vector}
 use Rattle.rules.specs.Heap.{Heap, capacity, cell-at, in-use, text-of, elements-of}
 use Rattle.rules.specs.Collect.{Reached, root, next}
 use Rattle.rules.specs.Sound.{text-block, vector-block, sound-rules}
-use Rattle.rules.specs.Read.{Walk, give-label, meet, enter, in-order, walk, labels-for, reading, read-rules}
+use Rattle.rules.specs.Read.{Walk, give-label, meet, enter, in-order, walk, labels-for, reading}
 use Rattle.rules.proofs.Good.{Good, used-slot, each-once}
 use Rattle.collect_laws.specs.Kept.{As-before, same-scalar, same-pair, symbol-moved, string-moved, vector-moved, Reached-value}
 use Rattle.collect_laws.specs.Kept as Kept

@@ -4,12 +4,12 @@ use mathlib.Core.Path.{_≡_, refl, sym, ap, _∙_}
 use mathlib.Core.Bool.{Bool, true, false}
 use mathlib.Core.List.{List}
 use Prim.Native.Nat.{ℕ}
-use Rattle.rules.specs.Refusals.{Refusal, Answer, accepted, refused}
+use Rattle.rules.specs.Refusals.{Refusal, Answer, refused}
 use Rattle.rules.specs.Nodes.{bytes, nodes-rules}
 use Rattle.rules.specs.Layout.{Lent, heap-of}
 use Rattle.rules.specs.Sound.{setup-numbers}
 use Rattle.rules.specs.Calls as Calls
-use Rattle.rules.specs.Calls.{Stored, put-call, collect-call, of-answer}
+use Rattle.rules.specs.Calls.{Stored, put-call, of-answer}
 use Rattle.rules.proofs.SoundLaws.{setup-refuses, setup-accepts}
 use Rattle.rules.proofs.PutSound as PutSound
 use Rattle.rules.proofs.PutSound.{Put-left, put-left}

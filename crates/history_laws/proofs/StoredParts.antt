@@ -2,7 +2,7 @@
 -- slot. Element store: a scalar or a used slot." Assumes nothing.
 use mathlib.Core.Path.{_≡_, refl, sym, ap, _∙_, subst}
 use mathlib.Core.Bool.{Bool, true, false, not}
-use mathlib.Core.List.{List, [], _∷_}
+use mathlib.Core.List.{[], _∷_}
 use mathlib.Core.Option.{Option, none, some}
 use Prim.Native.Nat.{ℕ, _+_, _/_, _<_}
 use native.Mathlib.Omega.{arith}
@@ -11,18 +11,18 @@ use lib.Dec.{ltb}
 use lib.ListN.{length, length-set}
 use Rattle.laws.specs.Basics.{choose, both}
 use Rattle.laws.proofs.Tests.{both-left}
-use Rattle.rules.specs.Refusals.{Refusal, unsound, no-such-slot, wrong-cell, Answer, accepted, refused, _⇒_, unless}
+use Rattle.rules.specs.Refusals.{unsound, no-such-slot, wrong-cell, Answer, accepted, refused, _⇒_, unless}
 use Rattle.rules.specs.Cells.{Value, Cell, plain, pair, symbol, string, vector, is-symbol}
-use Rattle.rules.specs.Heap.{Heap, capacity, cell-at, in-use, with-cell, with-element}
-use Rattle.rules.specs.Layout.{Lent, rooms-of, heap-of, lent-of, layout-rules}
-use Rattle.rules.specs.Sound.{vector-block, sound, sound-rules}
-use Rattle.rules.specs.Calls.{Stored, stored, of-answer, given-value, given-cell, value-in-use, cell-in-use, cell-store, element-place, store-element, element-store, call-rules}
+use Rattle.rules.specs.Heap.{Heap, cell-at, in-use, with-cell, with-element}
+use Rattle.rules.specs.Layout.{Lent, rooms-of, heap-of, lent-of}
+use Rattle.rules.specs.Sound.{sound, sound-rules}
+use Rattle.rules.specs.Calls.{Stored, stored, of-answer, given-value, given-cell, value-in-use, cell-in-use, cell-store, element-place, store-element, element-store}
 use Rattle.rules.proofs.LentLaws.{Fits, heap-lent}
 use Rattle.rules.proofs.SoundLaws.{clauses, sound-fits}
-use Rattle.rules.proofs.Good.{Good, Cell-good, used-slot}
+use Rattle.rules.proofs.Good.{Cell-good, used-slot}
 use Rattle.rules.proofs.Keeping.{lies-below, with-cell-at, with-cell-other, with-cell-capacity, with-element-at, with-element-other}
 use Rattle.rules.proofs.GoodSound.{passed, unless-keeps, sound-good}
-use Rattle.history_laws.specs.Lines.{Rest-same, Cell-line, Element-line}
+use Rattle.history_laws.specs.Lines.{Cell-line, Element-line}
 use Rattle.history_laws.proofs.AcceptedPut.{not-refused}
 
 none-some : {A : Type 0} {a : A} → _≡_ {A = Option A} none (some a) → ⊥

@@ -2,7 +2,7 @@
 -- other, and are alike afterwards; and in a good heap a slot that is given was not in use, and is from then on. Document 01,
 -- "Slots and growth". Assumes nothing.
 use mathlib.Core.Path.{_≡_, refl, sym, ap, _∙_}
-use mathlib.Core.Bool.{Bool, true, false}
+use mathlib.Core.Bool.{true}
 use mathlib.Core.List.{List, [], _∷_, _++_, reverse}
 use mathlib.Core.Logic.{_⊎_, inl, inr, ⊎-elim}
 use Prim.Native.Nat.{ℕ, _+_, _-_, _/_, _≤_}
@@ -15,7 +15,7 @@ use Rattle.laws.proofs.Tests.{true≢false}
 use Rattle.laws.proofs.Pointwise.{count-here, count-other}
 use Rattle.rules.specs.Map.{is-allocated, set-state, Allocated}
 use Rattle.rules.specs.Cells.{undefined, plain}
-use Rattle.rules.specs.Heap.{Heap, capacity, in-use, used-count, grown, grow, pop, alloc, heap-rules}
+use Rattle.rules.specs.Heap.{Heap, capacity, in-use, used-count, grown, grow, alloc, heap-rules}
 use Rattle.rules.proofs.Good.{Good}
 use Rattle.rules.proofs.Allocate.{pop-by, prepared-by, took}
 use Rattle.collect_laws.proofs.Reach.{member-cases, first-member, later-member}

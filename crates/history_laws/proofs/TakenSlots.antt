@@ -1,18 +1,17 @@
 -- The slots that the written rule tells along a datum's tree are those that its put takes: by induction over the tree, in any heap
 -- at all; and, in a good heap, what that comes to. Document 01, "Slots and growth". Assumes nothing.
-use mathlib.Core.Path.{_≡_, refl, sym, ap, _∙_}
-use mathlib.Core.Bool.{true}
-use mathlib.Core.List.{List, [], _∷_, _++_}
+use mathlib.Core.Path.{_≡_, refl}
+use mathlib.Core.List.{List, [], _∷_}
 use mathlib.Core.Option.{Option, none, some}
 use Prim.Native.Nat.{ℕ, suc}
-use lib.ListN.{length, length-set}
+use lib.ListN.{length-set}
 use Rattle.rules.specs.Cells.{Value, slot, scalar, Cell, plain}
 use Rattle.rules.specs.Nodes.{Atom}
 use Rattle.rules.specs.Datum.{Datum, Data, end, more, how-many}
-use Rattle.rules.specs.Heap.{Heap, Entry, shown, block-after, with-cell, with-bytes, alloc, found, heap-rules}
-use Rattle.rules.specs.Put.{Put, Making, making, put-as, new-cell, in-slot, slot-in, put-string, make-symbol, put-symbol, begin-label, labelled, with-block, store-at, put-atom, put, put-all, put-datum, put-rules}
+use Rattle.rules.specs.Heap.{Heap, Entry, shown, block-after, with-cell, with-bytes, alloc, found}
+use Rattle.rules.specs.Put.{Put, Making, making, put-as, new-cell, in-slot, put-string, make-symbol, put-symbol, begin-label, labelled, with-block, store-at, put-atom, put, put-all, put-datum, put-rules}
 use Rattle.history_laws.specs.Taken.{next-slot, taken-in-slot, taken-symbol, taken-atom, taken, taken-all, datum-taken, taken-rules}
-use Rattle.history_laws.proofs.Supplies.{Supply, supply-of, Takes, takes-none, takes-next, takes-on, takes-to}
+use Rattle.history_laws.proofs.Supplies.{supply-of, Takes, takes-none, takes-next, takes-on, takes-to}
 
 abbrev heap-after : Put → Heap
 heap-after p = p .making .heap

@@ -5,9 +5,9 @@
 use mathlib.Core.List.{List, [], _∷_, _++_}
 use mathlib.Core.Option.{none, some}
 use Prim.Native.Nat.{ℕ, zero, suc}
-use Rattle.rules.specs.Cells.{Value, slot, scalar}
+use Rattle.rules.specs.Cells.{slot, scalar}
 use Rattle.rules.specs.Nodes.{Atom}
-use Rattle.rules.specs.Datum.{Datum, Data, end, more, how-many, Parse, good, bad, parse, datum-rules}
+use Rattle.rules.specs.Datum.{Datum, Data, end, more, how-many, good, bad, parse, datum-rules}
 use Rattle.rules.specs.Heap.{Heap, block-after, alloc, found, heap-rules}
 use Rattle.rules.specs.Put.{Put, Making, making, in-slot, begin-label, labelled, with-block, store-at, put, put-all, put-rules}
 
