@@ -7,5 +7,6 @@ pub mod StoredParts
 pub mod Refused
 pub mod FreshLists
 pub mod SameValues
+pub mod SameAnswers
 pub mod Moments
 pub mod LineKept

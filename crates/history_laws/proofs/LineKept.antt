@@ -4,6 +4,7 @@
 use mathlib.Core.Path.{_≡_, refl, subst}
 use mathlib.Core.Bool.{Bool, true, false}
 use mathlib.Core.List.{List, _∷_}
+use mathlib.Core.Logic.{inl}
 use Prim.Native.Nat.{ℕ, _<_}
 use native.Mathlib.Omega.{arith}
 use Rattle.laws.specs.Basics.{count}
@@ -17,9 +18,10 @@ use Rattle.rules.specs.Calls.{put-call, collect-call}
 use Rattle.rules.proofs.Good.{Good, used-slot, not-used}
 use Rattle.rules.proofs.GoodSound.{sound-good}
 use Rattle.history_laws.specs.Taken.{slots-taken}
-use Rattle.history_laws.specs.Histories.{Call, setup, put, collect, Slots, Moment, moment, after, after-all, history-rules}
+use Rattle.history_laws.specs.Histories.{Call, setup, put, collect, Slots, reached-of, Moment, moment, after, after-all, history-rules}
 use Rattle.history_laws.specs.Lines.{heap-at, Put-line, Collect-line, Line}
 use Rattle.history_laws.proofs.SameValues.{same-fewer, collected-same}
+use Rattle.history_laws.proofs.SameAnswers.{same-answers}
 use Rattle.history_laws.proofs.PutFacts.{put-puts}
 use Rattle.history_laws.proofs.StoredParts.{cell-stored, element-stored}
 use Rattle.history_laws.proofs.Refused.{refused-same}
@@ -48,14 +50,21 @@ module _ (m : Moment) (z : Holds m) where
   unfolding history-rules
   put-line scratch datum b answer e =
       let p = put-puts (m .lent) scratch datum b answer e in
+      let n = call-holds m z (put scratch datum b) in
+      let same = same-fewer (p .same) (λ s x. z .used s .1 x) in
       record {
         fresh = λ s new x. p .fresh s new (z .used s .1 x);
         once = p .once;
         next = p .next;
         counted = p .counted;
-        in-set = call-holds m z (put scratch datum b) .used answer .0 (p .answered);
+        in-set = n .used answer .0 (p .answered);
         cells = λ s x. p .cells s (z .used s .1 x);
-        same = same-fewer (p .same) (λ s x. z .used s .1 x);
+        same = same;
+        answers =
+            same-answers (m .set) (m .lent) (put-call (m .lent) scratch datum .lent) (z .lists-sound) (n .lists-sound) (p .grown)
+            (λ s x. z .used s .1 x)
+            (λ s x. p .exactly s .1 (inl (z .used s .1 x)))
+            same;
       }
 
   -- ---- a collection
@@ -63,10 +72,20 @@ module _ (m : Moment) (z : Holds m) where
   collect-line : (scratch roots : List ℕ) → collect-call (m .lent) scratch roots .answer ≡ accepted tt → Collect-line m (after (collect scratch roots) m) roots
   unfolding history-rules
   collect-line scratch roots e =
-      let c = collect-was (m .lent) scratch roots e .collected in
+      let a = collect-was (m .lent) scratch roots e in
+      let c = a .collected in
+      let set = after (collect scratch roots) m .set in
+      let kept : (s : ℕ) → set s → reached-of (m .set) (heap-at m) roots s = λ s x. subst (λ (set : Slots). set s) (reduced m scratch roots e) x in
+      let same = same-fewer (collected-same c) (λ s x. kept s x .1) in
       record {
         collected = c;
-        same = same-fewer (collected-same c) (λ s x. (subst (λ (set : Slots). set s) (reduced m scratch roots e) x) .1);
+        same = same;
+        answers =
+            same-answers set (m .lent) (collect-call (m .lent) scratch roots .lent) (z .lists-sound) (a .lists-sound)
+            (omega (arith, c .same-capacity))
+            (λ s x. z .used s .1 (kept s x .0))
+            (λ s x. c .exactly s .1 (kept s x .1))
+            same;
       }
 
   -- ---- the line

@@ -10,7 +10,7 @@ use Rattle.laws.specs.Basics.{count, member}
 use Rattle.rules.specs.Refusals.{accepted}
 use Rattle.rules.specs.Nodes.{bytes}
 use Rattle.rules.specs.Datum.{Datum, Parse, good, bad, parse}
-use Rattle.rules.specs.Heap.{Heap, cell-at, in-use, used-count}
+use Rattle.rules.specs.Heap.{Heap, capacity, cell-at, in-use, used-count}
 use Rattle.rules.specs.Layout.{Lent, heap-of}
 use Rattle.rules.specs.Put.{put-datum, slot-in}
 use Rattle.rules.specs.Calls.{put-call}
@@ -30,6 +30,7 @@ pub record Puts (h : Heap) (new : List ℕ) (answer : ℕ) (k : Heap) : Type 0 w
   pub fresh : (s : ℕ) → member s new ≡ true → in-use h s ≡ true → ⊥
   pub once : (s : ℕ) → count s new ≤ 1
   pub next : new ≡ slots-given (length new) h
+  pub grown : capacity h ≤ capacity k
   pub counted : used-count k ≡ used-count h + length new
   pub answered : in-use k answer ≡ true
   pub cells : (s : ℕ) → in-use h s ≡ true → cell-at k s ≡ cell-at h s
@@ -47,6 +48,7 @@ put-does h g d k =
       fresh = v .fresh;
       once = v .once;
       next = next-given (t .slots);
+      grown = put-datum-more d h .capacities;
       counted = same-count (allocs new h) after (t .left) ∙ v .counted;
       answered = k .answer;
       cells = k .cells;

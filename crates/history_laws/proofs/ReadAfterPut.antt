@@ -20,7 +20,6 @@ use Rattle.rules.specs.Read.{Walk, give-label, meet, enter, in-order, walk, lab
 use Rattle.rules.proofs.Good.{Good, used-slot, each-once}
 use Rattle.collect_laws.specs.Kept.{As-before, same-scalar, same-pair, symbol-moved, string-moved, vector-moved, Reached-value}
 use Rattle.collect_laws.specs.Kept as Kept
-use Rattle.collect_laws.proofs.Collected.{same-text, same-elements}
 use Rattle.collect_laws.proofs.Leading.{marked-in-use, is-marked}
 use Rattle.collect_laws.proofs.Reading.{Led, pair-led, vector-led, in-order-same, walk-same, same-by-labels}
 use Rattle.collect_laws.proofs.Comparing.{same-eqv, same-equal}
@@ -182,8 +181,7 @@ module _ (h k : Heap) (g : Good h) (more : capacity h ≤ capacity k)
   pub grown-same : Same-values Used h k
   grown-same =
       record {
-        texts = λ s u. same-text h k (as-it-was s u);
-        vectors = λ s u. same-elements h k (as-it-was s u);
+        shows = as-it-was;
         reads = λ v x. let r = two-roots v v x x in from-roots (r .roots) (r .roots-used) v (r .first);
         compares = λ v w x y. let r = two-roots v w x y in same-eqv h k (r .roots) (stays (r .roots) (r .roots-used)) (r .first) (r .second);
         equals = λ v w x y. let r = two-roots v w x y in same-equal h k (r .roots) (stays (r .roots) (r .roots-used)) (r .first) (r .second);

@@ -8,15 +8,13 @@ use Rattle.rules.specs.Collect.{Reached}
 use Rattle.collect_laws.specs.Kept as Kept
 use Rattle.collect_laws.specs.Kept.{Reached-value}
 use Rattle.collect_laws.specs.Collects.{Collects}
-use Rattle.collect_laws.proofs.Collected.{same-text, same-elements}
 use Rattle.history_laws.specs.Histories.{Slots}
 use Rattle.history_laws.specs.Lines.{Held, no-slot, at-slot, Same-values}
 
 pub same-fewer : {set fewer : Slots} {h k : Heap} → Same-values set h k → ((s : ℕ) → fewer s → set s) → Same-values fewer h k
 same-fewer {set} {fewer} x p =
     record {
-      texts = λ s y. x .texts s (p s y);
-      vectors = λ s y. x .vectors s (p s y);
+      shows = λ s y. x .shows s (p s y);
       reads = λ v y. x .reads v (held v y);
       compares = λ v w y z. x .compares v w (held v y) (held w z);
       equals = λ v w y z. x .equals v w (held v y) (held w z);
@@ -29,8 +27,7 @@ same-fewer {set} {fewer} x p =
 pub collected-same : {h k : Heap} {roots : List ℕ} → Collects h roots k → Same-values (Reached h roots) h k
 collected-same {h} {k} {roots} c =
     record {
-      texts = λ s r. same-text h k (c .kept s r);
-      vectors = λ s r. same-elements h k (c .kept s r);
+      shows = c .kept;
       reads = λ v y. c .reads v (reached v y);
       compares = λ v w y z. c .compares v w (reached v y) (reached w z);
       equals = λ v w y z. c .equals v w (reached v y) (reached w z);

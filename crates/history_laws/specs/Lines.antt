@@ -10,16 +10,18 @@ use mathlib.Core.Option.{some}
 use Prim.Native.Nat.{ℕ, _+_, _≤_, _<_}
 use lib.ListN.{length, getD}
 use Rattle.laws.specs.Basics.{count, member}
+use Rattle.rules.specs.Numbers.{scratch-words}
 use Rattle.rules.specs.Refusals.{accepted}
 use Rattle.rules.specs.Nodes.{bytes}
 use Rattle.rules.specs.Cells.{Scalar, undefined, Value, slot, scalar, Cell}
-use Rattle.rules.specs.Heap.{Heap, capacity, cell-at, in-use, text-of, elements-of, used-count}
-use Rattle.rules.specs.Layout.{heap-of}
+use Rattle.rules.specs.Heap.{Heap, capacity, cell-at, in-use, used-count}
+use Rattle.rules.specs.Layout.{Lent, heap-of}
 use Rattle.rules.specs.Read.{reading}
 use Rattle.rules.specs.Equal.{eqv, Equal}
-use Rattle.rules.specs.Sound.{text-block, vector-block, sound}
+use Rattle.rules.specs.Sound.{sound}
 use Rattle.rules.specs.Calls as Calls
-use Rattle.rules.specs.Calls.{put-call, collect-call, given-cell, given-value, element-place}
+use Rattle.rules.specs.Calls.{put-call, collect-call, read-call, eqv-call, Equal-left, Equal-call, text-part, text-told, given-cell, given-value, element-place}
+use Rattle.collect_laws.specs.Kept.{As-before}
 use Rattle.collect_laws.specs.Collects.{Collects}
 use Rattle.history_laws.specs.Taken.{slots-given, slots-taken}
 use Rattle.history_laws.specs.Histories.{Call, put, collect, cell-store, element-store, Slots, Moment, after, Refuses}
@@ -27,18 +29,32 @@ use Rattle.history_laws.specs.Histories.{Call, put, collect, cell-store,
 abbrev pub heap-at : Moment → Heap
 heap-at m = heap-of (m .lent)
 
+-- scratch that is long enough for these lists
+abbrev pub Enough : Lent → List ℕ → Type 0
+Enough l scratch = scratch-words (capacity (heap-of l)) ≤ length scratch
+
 -- a scalar, or a slot of the set
 pub data Held (set : Slots) : Value → Type 0 where
   no-slot : {x : Scalar} → Held set (scalar x)
   at-slot : {s : ℕ} → set s → Held set (slot s)
 
--- what is in the set shows, reads and compares in one heap as it did in the other
+-- what is in the set shows, reads and compares in one heap as it did in the other; only where a block stands may differ
 pub record Same-values (set : Slots) (h k : Heap) : Type 0 where
-  pub texts : (s : ℕ) → set s → text-of k (text-block (cell-at k s)) ≡ text-of h (text-block (cell-at h s))
-  pub vectors : (s : ℕ) → set s → elements-of k (vector-block (cell-at k s)) ≡ elements-of h (vector-block (cell-at h s))
+  pub shows : (s : ℕ) → set s → As-before h k (cell-at h s) (cell-at k s)
   pub reads : (v : Value) → Held set v → reading k v ≡ reading h v
   pub compares : (v w : Value) → Held set v → Held set w → eqv k v w ≡ eqv h v w
   pub equals : (v w : Value) → Held set v → Held set w → (truth : Bool) → Equal k v w truth ↔ Equal h v w truth
+
+-- and a caller who asks after it is told the same: by read, given scratch that is enough afterwards, by the two equalities, and by text
+pub record Same-answers (set : Slots) (l l′ : Lent) : Type 0 where
+  pub reads : (scratch out : List ℕ) (kind a : ℕ) (v : Value) → given-value kind a ≡ accepted v → Held set v → Enough l′ scratch
+      → read-call l′ scratch out kind a ≡ read-call l scratch out kind a
+  pub eqvs : (kind a kind′ a′ : ℕ) (v w : Value) → given-value kind a ≡ accepted v → given-value kind′ a′ ≡ accepted w → Held set v → Held set w
+      → eqv-call l′ kind a kind′ a′ ≡ eqv-call l kind a kind′ a′
+  pub equals : (scratch : List ℕ) (kind a kind′ a′ : ℕ) (v w : Value) → given-value kind a ≡ accepted v → given-value kind′ a′ ≡ accepted w → Held set v → Held set w → Enough l′ scratch
+      → (r : Equal-left) → Equal-call l′ scratch kind a kind′ a′ r ↔ Equal-call l scratch kind a kind′ a′ r
+  pub texts : (s : ℕ) → set s → text-part l′ s ≡ text-part l s
+  pub told : (s : ℕ) → set s → text-told l′ s ≡ text-told l s
 
 -- ---- an accepted put
 
@@ -54,6 +70,7 @@ pub record Put-line (m n : Moment) (new : List ℕ) (answer : ℕ) : Type 0 wher
   -- no slot of the set gets another cell, and each is read as before
   pub cells : (s : ℕ) → m .set s → cell-at (heap-at n) s ≡ cell-at (heap-at m) s
   pub same : Same-values (m .set) (heap-at m) (heap-at n)
+  pub answers : Same-answers (m .set) (m .lent) (n .lent)
 
 -- ---- an accepted collection
 
@@ -61,6 +78,7 @@ pub record Collect-line (m n : Moment) (roots : List ℕ) : Type 0 where
   pub collected : Collects (heap-at m) roots (heap-at n)
   -- what is kept is read as before
   pub same : Same-values (n .set) (heap-at m) (heap-at n)
+  pub answers : Same-answers (n .set) (m .lent) (n .lent)
 
 -- ---- an accepted store: one cell, or one element, and nothing else
 
