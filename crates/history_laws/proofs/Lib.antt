@@ -10,3 +10,4 @@ pub mod SameValues
 pub mod SameAnswers
 pub mod Moments
 pub mod LineKept
+pub mod HeldOn

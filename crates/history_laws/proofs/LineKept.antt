@@ -1,6 +1,7 @@
--- The line is kept over any sequence of calls from a fresh heap, refused ones included. Document 01, demand 3: at every moment the
--- slots in use are the set worked out from the history, every other slot below the capacity stands once on the free list, no put
--- gives a new cell a slot of the set, and reading a kept slot gives after a collection what it gave before. Assumes nothing.
+-- The line is kept over any sequence of calls from a fresh heap, refused ones included. Document 01, "How tight the promises are",
+-- demand 3: at every moment the slots in use are the set worked out from the history, every other slot below the capacity stands
+-- once on the free list, no put gives a new cell a slot of the set, and reading a kept slot gives after a collection what it gave
+-- before. Assumes nothing.
 use mathlib.Core.Path.{_≡_, refl, subst}
 use mathlib.Core.Bool.{Bool, true, false}
 use mathlib.Core.List.{List, _∷_}

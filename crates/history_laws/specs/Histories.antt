@@ -1,6 +1,7 @@
 -- Histories: the calls with what a caller gives them, the lent lists after each by the rules' own definition of the call, and,
--- beside them, the set of slots worked out from the calls alone. Document 01: "a collection that does nothing (demand 3's set), one
--- that collects properly once and then keeps everything (demand 3 at every moment)". Assumes nothing.
+-- beside them, the set of slots worked out from the history, call by call; no state map is asked for it. Document 01, "How tight the
+-- promises are": "a collection that does nothing (demand 3's set), one that collects properly once and then keeps everything (demand
+-- 3 at every moment)". Assumes nothing.
 use mathlib.Core.Path.{_≡_}
 use mathlib.Core.Bool.{true}
 use mathlib.Core.List.{List, [], _∷_}
@@ -64,8 +65,8 @@ with-slots set new s = set s ⊎ (member s new ≡ true)
 abbrev pub reached-of : Slots → Heap → List ℕ → Slots
 reached-of set h roots s = set s × Reached h roots s
 
--- accepted, a setup empties the set, a put adds what the written rule gives, and a collection keeps exactly what its roots reach;
--- a refused call and every other call leave it
+-- accepted, a setup empties the set, a put adds what the written rule gives, and a collection keeps exactly what its roots reach
+-- in the heap before; a refused call and every other call leave it
 unfoldable pub set-after : Call → Lent → Slots → Slots
 unfolding of-answer
 set-after (setup chunk) l set = of-answer (Calls.setup chunk l .answer) (λ a. no-slots) (λ r. set)

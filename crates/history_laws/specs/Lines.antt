@@ -1,7 +1,7 @@
--- The line that the heap keeps, at one moment of a history: the slots in use are the set worked out from the calls, every other
--- slot stands once on the free list, and what each next call may do to them. Document 01: "A refusal answers its number only, and
--- leaves heap and output as they stood", "the free list holds each Free slot once"; demands 2 and 3 of its readers: the slots that a
--- put takes are those that the rule gives, and what is kept reads as before. Assumes nothing.
+-- The line that the heap keeps, at one moment of a history: the slots in use are the set worked out from the history, every other
+-- slot stands once on the free list, and what each next call may do to them. Document 01, "How tight the promises are", demands 2
+-- and 3: a put takes the slots that the rule gives, and what is kept is read as before; "A refusal answers its number only, and leaves
+-- heap and output as they stood". Assumes nothing.
 use mathlib.Core.Path.{_≡_}
 use mathlib.Core.Bool.{Bool, true}
 use mathlib.Core.List.{List}
@@ -112,6 +112,7 @@ pub record Element-line (h k : Heap) (s i kind a : ℕ) : Type 0 where
 
 -- ---- the line
 
+-- the record that is proved of every moment after an accepted setup
 pub record Line (m : Moment) : Type 1 where
   pub lists-sound : sound (m .lent) ≡ true
   -- the slots in use are the set, and every other slot below the capacity stands once on the free list
