@@ -54,12 +54,12 @@ module _ (h k : Heap) (roots : List ℕ) (same : (s : ℕ) → Reached h roots s
         | vector b ↦ enter path s (in-order (λ v w. walk n x (s ∷ path) v w) (elements-of x b)) w
       ]
 
-  in-order-same : (f g : Value → Walk → Walk) → ((v : Value) (w : Walk) → Reached-value h roots v → f v w ≡ g v w) → {vs : List Value} → Reached-values h roots vs → (w : Walk) → in-order f vs w ≡ in-order g vs w
+  pub in-order-same : (f g : Value → Walk → Walk) → ((v : Value) (w : Walk) → Reached-value h roots v → f v w ≡ g v w) → {vs : List Value} → Reached-values h roots vs → (w : Walk) → in-order f vs w ≡ in-order g vs w
   unfolding in-order
   in-order-same f g p none-left w = refl
   in-order-same f g p (one-more {v} {vs} r rs) w = ap (in-order f vs) (p v w r) ∙ in-order-same f g p rs (g v w)
 
-  walk-same : (n : ℕ) (path : List ℕ) (v : Value) (w : Walk) → Reached-value h roots v → walk n k path v w ≡ walk n h path v w
+  pub walk-same : (n : ℕ) (path : List ℕ) (v : Value) (w : Walk) → Reached-value h roots v → walk n k path v w ≡ walk n h path v w
   unfolding walk
   walk-same zero path v w r = refl
   walk-same (suc n) path (scalar x) w r = refl
@@ -125,6 +125,16 @@ module _ (h k : Heap) (roots : List ℕ) (same : (s : ℕ) → Reached h roots s
 
   -- ---- the reading
 
+  pub same-by-labels : (v : Value) → Reached-value h roots v → labels-for k v ≡ labels-for h v → reading k v ≡ reading h v
+  unfolding reading
+  same-by-labels v x labels =
+      λ i.
+      elim (leb (length (labels i)) most-labels) [
+        | false ↦ none
+        | true ↦ reading-of ((ap (λ (ls : List ℕ). build most-nodes k ls v (record { left = most-nodes; begun = [] })) labels
+            ∙ build-same most-nodes (labels-for h v) v (record { left = most-nodes; begun = [] }) x) i)
+      ]
+
   module _ (size : capacity k ≡ capacity h) where
     labels-same : (v : Value) → Reached-value h roots v → labels-for k v ≡ labels-for h v
     unfolding labels-for
@@ -133,11 +143,4 @@ module _ (h k : Heap) (roots : List ℕ) (same : (s : ℕ) → Reached h roots s
         ∙ ap (λ (w : Walk). w .labels) (walk-same (suc (capacity h)) [] v (record { met = []; labels = [] }) x)
 
     pub same-reading : (v : Value) → Reached-value h roots v → reading k v ≡ reading h v
-    unfolding reading
-    same-reading v x =
-        λ i.
-        elim (leb (length (labels-same v x i)) most-labels) [
-          | false ↦ none
-          | true ↦ reading-of ((ap (λ (ls : List ℕ). build most-nodes k ls v (record { left = most-nodes; begun = [] })) (labels-same v x)
-              ∙ build-same most-nodes (labels-for h v) v (record { left = most-nodes; begun = [] }) x) i)
-        ]
+    same-reading v x = same-by-labels v x (labels-same v x)

@@ -1,0 +1,13 @@
+pub mod Supplies
+pub mod TakenSlots
+pub mod AcceptedPut
+pub mod ReadAfterPut
+pub mod PutFacts
+pub mod StoredParts
+pub mod Refused
+pub mod FreshLists
+pub mod SameValues
+pub mod SameAnswers
+pub mod Moments
+pub mod LineKept
+pub mod HeldOn

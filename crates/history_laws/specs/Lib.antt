@@ -1,0 +1,4 @@
+pub mod Taken
+pub mod Histories
+pub mod Lines
+pub mod HeldThrough
