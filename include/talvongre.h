@@ -66,7 +66,7 @@ uint32_t talvongre_setup(uint64_t *words, size_t words_len, uint8_t *map, size_t
  *
  *   0 undefined   1 nil   2 eof   3 void        nothing
  *   4 Bool        5 Char                        4 bytes: 0 or 1; a Unicode scalar value
- *   6 Number                                    8 bytes: a signed 64-bit number
+ *   6 Number                                    8 bytes: a signed 64-bit number; given in a, its 64 bits as they are
  *   7 String      8 Symbol                      4 bytes: the length of a text; its UTF-8
  *   9 Pair                                      nothing; the car and the cdr follow
  *  10 Vector                                    4 bytes: how many data follow
@@ -90,7 +90,9 @@ uint32_t talvongre_read(const uint64_t *words, size_t words_len, const uint8_t *
 
 /* Collects: keeps what the roots reach and frees the rest, in rising order; packs both arenas by lowest slot, each block once, and
  * clears what is behind them. The roots are slots; there may be none, and one may be named twice. A pair leads to its car and cdr, a
- * vector to each element that is a slot. Kept cells stay in their slots; the place of a text or a vector may change.
+ * vector to each element that is a slot. Kept cells stay in their slots; the place of a text or a vector may change. A slot that is
+ * freed is given again by later puts: a host that still holds its number is told 14 only while the slot is free, and afterwards reads
+ * what stands there then. So drop the numbers of what no root reaches.
  * Answers 0, 20, 19 or 14, which is found before anything is changed. */
 uint32_t talvongre_collect(uint64_t *words, size_t words_len, uint8_t *map, size_t map_len, uint8_t *bytes, size_t bytes_len,
                            uint64_t *elems, size_t elems_len, uint64_t *scratch, size_t scratch_len, const uint64_t *roots,
@@ -110,14 +112,18 @@ uint32_t talvongre_element_store(const uint64_t *words, size_t words_len, const 
                                  size_t bytes_len, uint64_t *elems, size_t elems_len, uint64_t slot, uint64_t k, uint64_t kind,
                                  uint64_t a);
 
-/* Compares two values by eqv: each a scalar (kinds 0 to 6) or a slot (kind 15). Writes 1 or 0 to *truth.
+/* Compares two values by eqv: each a scalar (kinds 0 to 6) or a slot (kind 15). The same slot is eqv to itself; else Bool, Char and
+ * Number by value, Nil with Nil, Eof with Eof, strings by content, pairs of the same two slots; nothing else is, Void and Undefined
+ * too. Writes 1 or 0 to *truth.
  * Answers 0, 20, 11 or 14. */
 uint32_t talvongre_eqv(const uint64_t *words, size_t words_len, const uint8_t *map, size_t map_len, const uint8_t *bytes,
                        size_t bytes_len, const uint64_t *elems, size_t elems_len, uint64_t kind, uint64_t a, uint64_t kind2,
                        uint64_t a2, uint64_t *truth);
 
-/* Compares two values by equal: each a scalar (kinds 0 to 6) or a slot (kind 15). Pairs are equal by their cars and then along their
- * cdrs, vectors of one length element by element, strings by content; cycles are no hindrance. Writes 1 or 0 to *truth.
+/* Compares two values by equal: each a scalar (kinds 0 to 6) or a slot (kind 15). What is eqv is equal; besides pairs whose cars are
+ * equal and whose cdrs are pairs of which the same holds, or are eqv by their cells; and vectors of one length, element by element.
+ * So two lists that end in a symbol or a vector, as (1 . foo), are equal only if they are eqv. Cycles are no hindrance. Writes 1 or
+ * 0 to *truth.
  * Answers 0, 20, 19, 11 or 14. */
 uint32_t talvongre_equal(const uint64_t *words, size_t words_len, const uint8_t *map, size_t map_len, const uint8_t *bytes,
                          size_t bytes_len, const uint64_t *elems, size_t elems_len, uint64_t *scratch, size_t scratch_len,
