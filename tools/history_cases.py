@@ -216,6 +216,37 @@ def refusals():
     history.dump()
 
 
+# a call of each kind; all but setup look whether the lists are sound, and those of the second list take scratch
+CALLS = ["c 0 1 0 0", "e 0 0 1 0", "v 1 0 1 0"]
+WITH_SCRATCH = ["p 01", "g", "g 0", "r 16384 15 0", "r 16384 1 0", "q 1 0 1 0", "q 15 0 15 0"]
+
+
+def damaged():
+    history = History("lists that are no sound heap: 20 of every call, before 19, 11 and 14; repaired they are one again", 8)
+    slot = history.put("vec=2", "num=1", string("two"))
+    held = history.dump()
+    for index, wrong, right in ((7, 1, 0), (1, 9, 8), (2, 0, 6), (8 + 8 * slot + 3, 5, 0)):
+        case("w %d %d" % (index, wrong), "")
+        history.refused(20, *CALLS, *WITH_SCRATCH, "c 99 77 0 0", "q 77 0 15 99", "r 0 77 0", "g 99")
+        case("w %d %d" % (index, right), "")
+        assert history.dump() == held
+    history.read(slot)
+
+
+def short_scratch():
+    """260 slots want more scratch than is lent, 256 do not."""
+    history = History("a capacity past what the scratch is long enough for: 19 of every call that takes it, before 11 and 14", 260)
+    history.refused(19, *WITH_SCRATCH, "p 63", "g 99", "r 0 77 0", "r 0 15 99", "q 77 0 15 99")
+    history.refused(14, *CALLS[:2], "v 15 0 15 0")
+    assert "free=260" in history.dump()
+    history = History("a capacity for which the scratch is just long enough", 256)
+    slot = history.put("vec=2", "num=1", string("two"))
+    history.read(slot)
+    history.call("equal @%d @%d" % (slot, slot))
+    history.call("collect %d" % slot)
+    history.dump()
+
+
 def unfolding():
     """Each pair names the next twice: one more doubles what is read. 4,096 nodes are read, 4,097 are 12."""
     history = History("a reading that unfolds: 4,096 nodes are read, one more is 12; 12 comes before 18", 16)
@@ -388,7 +419,7 @@ def cycles():
     history.dump()
 
 
-for one in lapsed_and_free, lapsed_and_taken, refusals, unfolding, labels, full, packed, shared, comparing, cycles:
+for one in lapsed_and_free, lapsed_and_taken, refusals, damaged, short_scratch, unfolding, labels, full, packed, shared, comparing, cycles:
     one()
 BY_HAND = len(ASKED)
 

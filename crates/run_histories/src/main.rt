@@ -1,9 +1,10 @@
-// Runs stored histories of calls, one call a line, on one set of lent lists (256 slots, 8,192 bytes, 4,096 elements). A line is a
-// letter and numbers with a blank before each: "s CHUNK" setup, "p HEX" put of a datum's bytes, "c SLOT KIND A B" cell store,
-// "e SLOT INDEX KIND A" element store, "g ROOT ROOT .." collection, "r LENGTH KIND A" read into an output of that length,
-// "v KIND A KIND A" eqv, "q KIND A KIND A" equal, "d" the whole heap; "#" begins a remark, which is said again. Each answer is as
-// the oracle prints it, but a datum is its bytes in hex. What the histories are, and where their answers come from (the original Rust, or document 01
-// for refusals that it does not have), is in tools/history_cases.py.
+// Runs stored histories of calls, one call a line, on one set of lent lists (260 slots, 8,192 bytes, 4,096 elements, and scratch
+// for 256 slots). A line is a letter and numbers with a blank before each: "s CHUNK" setup, "p HEX" put of a datum's bytes, "c SLOT
+// KIND A B" cell store, "e SLOT INDEX KIND A" element store, "g ROOT ROOT .." collection, "r LENGTH KIND A" read into an output of
+// that length, "v KIND A KIND A" eqv, "q KIND A KIND A" equal, "d" the whole heap, "w INDEX NUMBER" a lent word written by hand; "#"
+// begins a remark, which is said again. Each answer is as the oracle prints it, but a datum is its bytes in hex. What the histories
+// are, and where their answers come from (the original Rust, or document 01 for refusals that it does not have), is in
+// tools/history_cases.py.
 ghost use Prim.Native.Nat.{_≤_};
 ghost use mathlib.Core.Path.{_≡_};
 ghost use lib.ListN.{length};
@@ -303,6 +304,13 @@ fn ask(
     }
 }
 
+// "w INDEX NUMBER": damage, or its repair; nothing past the lent words.
+fn write_word(words: &mut [u64], at: u64, number: u64) {
+    if at < words.len() as u64 {
+        words[at as usize] = number;
+    }
+}
+
 // Answers one line; the calls that change the heap are here.
 fn step(
     words: &mut [u64],
@@ -325,6 +333,7 @@ fn step(
         b'c' => tell(c_doors::talvongre_cell_store(words, map, bytes, elems, a, b, c, d)),
         b'e' => tell(c_doors::talvongre_element_store(words, map, bytes, elems, a, b, c, d)),
         b'g' => tell(c_doors::talvongre_collect(words, map, bytes, elems, scratch, given)),
+        b'w' => write_word(words, a, b),
         _ => ask(words, map, bytes, elems, scratch, line, given),
     }
 }
@@ -367,8 +376,8 @@ fn run(
 fn main() {
     let mut space = [0u8; 262144];
     let n = io::read_full(0, &mut space);
-    let mut words = [0u64; 2056];
-    let mut map = [0u8; 64];
+    let mut words = [0u64; 2088];
+    let mut map = [0u8; 65];
     let mut bytes = [0u8; 8192];
     let mut elems = [0u64; 12288];
     let mut scratch = [0u64; 2176];
