@@ -5,7 +5,7 @@ use mathlib.Core.List.{List, [], _∷_, _++_, append-assoc, List·Memᴰ, List·
 use mathlib.Core.Logic.{⊎-elim}
 use Prim.Native.Nat.{ℕ, suc, _+_, _-_, _*_, _≤_, _<_}
 use native.Mathlib.Omega.{arith}
-use lib.ListN.{length, take, drop, set}
+use lib.ListN.{length, take, drop}
 use lib.Seq.{drop-at}
 use Rattle.laws.specs.Basics.{zeros}
 use Rattle.laws.proofs.Zeros.{take-zeros, zeros-append}
@@ -19,7 +19,7 @@ use Rattle.leaf_classes.specs.Classes.{Together, Rises, weight, joined}
 use Rattle.leaf_classes.proofs.Roots.{weight-most}
 use Rattle.leaf_classes.proofs.Classes.{zeros-rise, zeros-apart, join-keeps, join-no, join-same, join-same-back, join-yes, join-light, join-weight}
 use Rattle.heap_equal.specs.Parts.{wanted, pending, first-of, second-of}
-use Rattle.heap_equal.specs.Boards.{stacked, push-pair, PairPushed, WalksJoined, Shape, Board, Moved, Refuted, UsedSlots, Clear}
+use Rattle.heap_equal.specs.Boards.{AlikeJoined, WalksJoined, stacked, Shape, Board, Moved, Refuted, UsedSlots, Clear}
 use Rattle.heap_equal.proofs.Scratch.{Beneath, pending-same, shape-kept, front-size, walks-size, new-front, old-back, front-beneath, pushed-front, pushed-walks, pushed-beneath, pushed-first, pushed-second, pushed-pending, mid-front, mid-walks, mid-beneath}
 
 -- what stands behind may come before
@@ -101,9 +101,78 @@ module _ (h : Heap) (c : ℕ) where
       pub pair-room : 2 * c + 2 * top + 1 < length sc
       pair-room = omega (arith, sh .room, sh .height, weight-most (take c sc), front-size c sc (sh .room))
 
-      -- ---- two slots pushed
+      -- ---- two slots on the stack
 
-      module _ (s t : ℕ) (us : UsedSlots h s t) (s-in : s < c) (t-in : t < c) (ready : step h (alike (slot s) (slot t)) ≡ needs (wanted h s t)) where
+      module _ (s t : ℕ) (us : UsedSlots h s t) (grown : top + 1 ≤ weight (take c sc)) where
+        abbrev two : List ℕ
+        two = stacked c sc top s t
+
+        two-front : take c two ≡ take c sc
+        two-front = pushed-front c sc top s t pair-room
+
+        two-walks : take c (drop c two) ≡ take c (drop c sc)
+        two-walks = pushed-walks c sc top s t pair-room
+
+        two-under : Beneath c top sc two
+        two-under = pushed-beneath c sc top s t pair-room
+
+        two-used : (v : List ℕ → ℕ → ℕ) (x : ℕ) → v two top ≡ x → in-use h x ≡ true → ((i : ℕ) → i < top → in-use h (v two i) ≡ true) → (i : ℕ) → i < top + 1 → in-use h (v two i) ≡ true
+        two-used v x e u below i low =
+            elim (native.Mathlib.Decide.ℕ-discrete i top)
+            [ yes q ↦ ap (λ (n : ℕ). in-use h (v two n)) q ∙ ap (in-use h) e ∙ u | no ne ↦ below i (omega arith) ]
+
+        pushed-shape : Shape h c two (top + 1)
+        pushed-shape =
+            let old =
+            shape-kept c top sc two two-under h sh (subst (λ (l : List ℕ). Rises l) (sym two-front) (sh .alike-rise))
+            (subst (λ (l : List ℕ). Rises l) (sym two-walks) (sh .walks-rise))
+            (subst (λ (l : List ℕ). weight (take c sc) ≤ weight l) (sym two-front) (omega arith)) in
+            record {
+              slots = sh .slots;
+              room = old .room;
+              alike-rise = old .alike-rise;
+              walks-rise = old .walks-rise;
+              height = subst (λ (l : List ℕ). top + 1 ≤ weight l) (sym two-front) grown;
+              first-used = two-used (first-of c) s (pushed-first c sc top s t pair-room) (us .first-used) (old .first-used);
+              second-used = two-used (second-of c) t (pushed-second c sc top s t pair-room) (us .second-used) (old .second-used);
+            }
+
+        pushed-board : (first : Goal) (rest : List Goal) → Board h first c sc top (wanted h s t ++ rest) → Board h first c two (top + 1) rest
+        pushed-board first rest b =
+            record {
+              run =
+                  subst (λ (gs : List Goal). Run h first (Together (take c two)) (Together (take c (drop c two))) (rest ++ gs))
+                  (sym (pushed-pending c sc top s t pair-room h))
+                  (same-taken h first (Together (take c sc)) (Together (take c (drop c sc))) (Together (take c two)) (Together (take c (drop c two)))
+                  (rest ++ (wanted h s t ++ pending h c sc top))
+                  (λ x y p. subst (λ (l : List ℕ). Together l x y) (sym two-front) p)
+                  (λ x y p. subst (λ (l : List ℕ). Together l x y) two-front p)
+                  (λ x y p. subst (λ (l : List ℕ). Together l x y) (sym two-walks) p)
+                  (λ x y p. subst (λ (l : List ℕ). Together l x y) two-walks p)
+                  (reorder h first (Together (take c sc)) (Together (take c (drop c sc)))
+                  (wanted h s t ++ (rest ++ pending h c sc top))
+                  (rest ++ (wanted h s t ++ pending h c sc top))
+                  (swap-in (wanted h s t) rest (pending h c sc top))
+                  (swap-in rest (wanted h s t) (pending h c sc top))
+                  (subst (λ (p : List Goal). Run h first (Together (take c sc)) (Together (take c (drop c sc))) p)
+                  (append-assoc (wanted h s t) rest (pending h c sc top))
+                  (b .run))));
+            }
+
+        -- goals that gave way to what the two slots need, while the classes grew, are on the stack
+        pub pair-pushed : (gs : List Goal) (sc₀ : List ℕ) → Moved h c gs sc₀ top (wanted h s t) sc top → weight (take c sc₀) + 1 ≤ weight (take c sc) → Moved h c gs sc₀ top [] two (top + 1)
+        pair-pushed gs sc₀ m more =
+            record {
+              shape = pushed-shape;
+              gain = subst (λ (l : List ℕ). top + 1 + weight (take c sc₀) ≤ top + weight l) (sym two-front) (omega (arith, more));
+              walk-gain =
+                  subst (λ (l : List ℕ). weight (take c (drop c sc₀)) ≤ weight l) (sym two-walks) (m .walk-gain);
+              runs = λ first rest b. pushed-board first rest (m .runs first rest b);
+            }
+
+      -- ---- two slots of one class
+
+      module _ (s t : ℕ) (s-in : s < c) (t-in : t < c) (r : Bool) (sc′ : List ℕ) (told : AlikeJoined c sc s t sc′ r) where
         abbrev A : List ℕ
         A = take c sc
 
@@ -122,121 +191,72 @@ module _ (h : Heap) (c : ℕ) where
         k-size : length k ≡ c
         k-size = join-keeps A (sh .alike-rise) s t s-inside t-inside .size ∙ A-size
 
-        k-rises : Rises k
-        k-rises = join-keeps A (sh .alike-rise) s t s-inside t-inside .rising
+        front-is : take c sc′ ≡ k
+        front-is = ap (take c) (told .scratch-is) ∙ new-front c sc (sh .room) k k-size
 
-        abbrev kept : List ℕ
-        kept = k ++ drop c sc
+        same-walks : take c (drop c sc′) ≡ take c (drop c sc)
+        same-walks = ap (λ (l : List ℕ). take c (drop c l)) (told .scratch-is) ∙ ap (take c) (old-back c sc (sh .room) k k-size)
 
-        walks-kept : take c (drop c kept) ≡ take c (drop c sc)
-        walks-kept = ap (take c) (old-back c sc (sh .room) k k-size)
+        beneath : Beneath c top sc sc′
+        beneath = subst (λ (l : List ℕ). Beneath c top sc l) (sym (told .scratch-is)) (front-beneath c sc (sh .room) k k-size top)
 
-        front-kept : take c kept ≡ k
-        front-kept = new-front c sc (sh .room) k k-size
+        pub class-shape : Shape h c sc′ top
+        class-shape =
+            shape-kept c top sc sc′ beneath h sh
+            (subst (λ (l : List ℕ). Rises l) (sym front-is) (join-keeps A (sh .alike-rise) s t s-inside t-inside .rising))
+            (subst (λ (l : List ℕ). Rises l) (sym same-walks) (sh .walks-rise))
+            (subst (λ (l : List ℕ). weight A ≤ weight l) (sym front-is) (join-light A (sh .alike-rise) s t s-inside t-inside))
 
-        one-class : joined A s t .widened ≡ false → Moved h c (alike (slot s) (slot t) ∷ []) sc top [] kept top
-        one-class was =
-            let light = join-light A (sh .alike-rise) s t s-inside t-inside in
-            let under = front-beneath c sc (sh .room) k k-size top in
+        -- the two slots gave way to what they need by a join of the classes
+        by-class : (gs : List Goal) → ((first : Goal) (rest : List Goal) → Run h first (Together A) (Together (take c (drop c sc))) (alike (slot s) (slot t) ∷ rest) → Run h first (Together k) (Together (take c (drop c sc))) (gs ++ rest)) → Moved h c (alike (slot s) (slot t) ∷ []) sc top gs sc′ top
+        by-class gs go =
             record {
-              shape =
-                  shape-kept c top sc kept under h sh (subst (λ (l : List ℕ). Rises l) (sym front-kept) k-rises)
-                  (subst (λ (l : List ℕ). Rises l) (sym walks-kept) (sh .walks-rise))
-                  (subst (λ (l : List ℕ). weight A ≤ weight l) (sym front-kept) light);
-              gain = subst (λ (l : List ℕ). top + weight A ≤ top + weight l) (sym front-kept) (omega (arith, light));
-              walk-gain = subst (λ (l : List ℕ). weight (take c (drop c sc)) ≤ weight l) (sym walks-kept) (omega arith);
+              shape = class-shape;
+              gain =
+                  subst (λ (l : List ℕ). top + weight A ≤ top + weight l) (sym front-is)
+                  (omega (arith, join-light A (sh .alike-rise) s t s-inside t-inside));
+              walk-gain = subst (λ (l : List ℕ). weight (take c (drop c sc)) ≤ weight l) (sym same-walks) (omega arith);
               runs = λ first rest b.
                   record {
                     run =
-                        subst (λ (gs : List Goal). Run h first (Together (take c kept)) (Together (take c (drop c kept))) (rest ++ gs))
-                        (sym (pending-same c top sc kept under h top (omega arith)))
-                        (same-taken h first (Together A) (Together (take c (drop c sc))) (Together (take c kept)) (Together (take c (drop c kept)))
-                        (rest ++ pending h c sc top)
-                        (λ x y p. subst (λ (l : List ℕ). Together l x y) (sym front-kept) (join-same-back A (sh .alike-rise) s t s-inside t-inside was x y p))
-                        (λ x y p. join-same A (sh .alike-rise) s t s-inside t-inside was x y (subst (λ (l : List ℕ). Together l x y) front-kept p))
-                        (λ x y p. subst (λ (l : List ℕ). Together l x y) (sym walks-kept) p)
-                        (λ x y p. subst (λ (l : List ℕ). Together l x y) walks-kept p)
-                        (skip-alike h first (Together A) (Together (take c (drop c sc))) s t (rest ++ pending h c sc top)
-                        (join-no A (sh .alike-rise) s t s-inside t-inside was)
-                        (b .run)));
+                        subst (λ (p : List Goal). Run h first (Together (take c sc′)) (Together (take c (drop c sc′))) ((gs ++ rest) ++ p))
+                        (sym (pending-same c top sc sc′ beneath h top (omega arith)))
+                        (same-taken h first (Together k) (Together (take c (drop c sc))) (Together (take c sc′)) (Together (take c (drop c sc′)))
+                        ((gs ++ rest) ++ pending h c sc top)
+                        (λ x y p. subst (λ (l : List ℕ). Together l x y) (sym front-is) p)
+                        (λ x y p. subst (λ (l : List ℕ). Together l x y) front-is p)
+                        (λ x y p. subst (λ (l : List ℕ). Together l x y) (sym same-walks) p)
+                        (λ x y p. subst (λ (l : List ℕ). Together l x y) same-walks p)
+                        (subst (λ (p : List Goal). Run h first (Together k) (Together (take c (drop c sc))) p) (sym (append-assoc gs rest (pending h c sc top)))
+                        (go first (rest ++ pending h c sc top) (b .run))));
                   };
             }
 
-        abbrev two : List ℕ
-        two = set (set kept (2 * c + 2 * top) s) (2 * c + 2 * top + 1) t
+        -- they were of one class
+        pub alike-known : r ≡ false → Moved h c (alike (slot s) (slot t) ∷ []) sc top [] sc′ top
+        alike-known e =
+            let was = sym (told .answer-is) ∙ e in
+            by-class [] (λ first rest run.
+            same-taken h first (Together A) (Together (take c (drop c sc))) (Together k) (Together (take c (drop c sc))) rest
+            (λ x y p. join-same-back A (sh .alike-rise) s t s-inside t-inside was x y p)
+            (λ x y p. join-same A (sh .alike-rise) s t s-inside t-inside was x y p)
+            (λ x y p. p)
+            (λ x y p. p)
+            (skip-alike h first (Together A) (Together (take c (drop c sc))) s t rest (join-no A (sh .alike-rise) s t s-inside t-inside was) run))
 
-        two-front : take c two ≡ k
-        two-front = pushed-front c sc (sh .room) k k-size top s t pair-room
+        -- they are now
+        pub alike-taken : r ≡ true → (gs : List Goal) → step h (alike (slot s) (slot t)) ≡ needs gs → Moved h c (alike (slot s) (slot t) ∷ []) sc top gs sc′ top
+        alike-taken e gs is =
+            by-class gs (λ first rest run.
+            take-alike h first (Together A) (Together (take c (drop c sc))) (Together k) s t gs rest
+            (join-yes A (sh .alike-rise) s t s-inside t-inside (sym (told .answer-is) ∙ e))
+            is
+            run)
 
-        two-walks : take c (drop c two) ≡ take c (drop c sc)
-        two-walks = pushed-walks c sc (sh .room) k k-size top s t pair-room
-
-        two-under : Beneath c top sc two
-        two-under = pushed-beneath c sc (sh .room) k k-size top s t pair-room
-
-        two-used : (v : List ℕ → ℕ → ℕ) (x : ℕ) → v two top ≡ x → in-use h x ≡ true → ((i : ℕ) → i < top → in-use h (v two i) ≡ true) → (i : ℕ) → i < top + 1 → in-use h (v two i) ≡ true
-        two-used v x e u below i low =
-            elim (native.Mathlib.Decide.ℕ-discrete i top)
-            [ yes q ↦ ap (λ (n : ℕ). in-use h (v two n)) q ∙ ap (in-use h) e ∙ u | no ne ↦ below i (omega arith) ]
-
-        new-class : joined A s t .widened ≡ true → Moved h c (alike (slot s) (slot t) ∷ []) sc top [] two (top + 1)
-        new-class yes-now =
-            let heavy = join-weight A (sh .alike-rise) s t s-inside t-inside yes-now in
-            let old =
-            shape-kept c top sc two two-under h sh (subst (λ (l : List ℕ). Rises l) (sym two-front) k-rises)
-            (subst (λ (l : List ℕ). Rises l) (sym two-walks) (sh .walks-rise))
-            (subst (λ (l : List ℕ). weight A ≤ weight l) (sym two-front) (omega (arith, heavy))) in
-            record {
-              shape =
-                  record {
-                    slots = sh .slots;
-                    room = old .room;
-                    alike-rise = old .alike-rise;
-                    walks-rise = old .walks-rise;
-                    height = subst (λ (l : List ℕ). top + 1 ≤ weight l) (sym two-front) (omega (arith, heavy, sh .height));
-                    first-used =
-                        two-used (first-of c) s (pushed-first c sc (sh .room) k k-size top s t pair-room) (us .first-used) (old .first-used);
-                    second-used =
-                        two-used (second-of c) t (pushed-second c sc (sh .room) k k-size top s t pair-room) (us .second-used) (old .second-used);
-                  };
-              gain = subst (λ (l : List ℕ). top + 1 + weight A ≤ top + weight l) (sym two-front) (omega (arith, heavy));
-              walk-gain = subst (λ (l : List ℕ). weight (take c (drop c sc)) ≤ weight l) (sym two-walks) (omega arith);
-              runs = λ first rest b.
-                  record {
-                    run =
-                        subst (λ (gs : List Goal). Run h first (Together (take c two)) (Together (take c (drop c two))) (rest ++ gs))
-                        (sym (pushed-pending c sc (sh .room) k k-size top s t pair-room h))
-                        (same-taken h first (Together k) (Together (take c (drop c sc))) (Together (take c two)) (Together (take c (drop c two)))
-                        (rest ++ (wanted h s t ++ pending h c sc top))
-                        (λ x y p. subst (λ (l : List ℕ). Together l x y) (sym two-front) p)
-                        (λ x y p. subst (λ (l : List ℕ). Together l x y) two-front p)
-                        (λ x y p. subst (λ (l : List ℕ). Together l x y) (sym two-walks) p)
-                        (λ x y p. subst (λ (l : List ℕ). Together l x y) two-walks p)
-                        (reorder h first (Together k) (Together (take c (drop c sc)))
-                        (wanted h s t ++ (rest ++ pending h c sc top))
-                        (rest ++ (wanted h s t ++ pending h c sc top))
-                        (swap-in (wanted h s t) rest (pending h c sc top))
-                        (swap-in rest (wanted h s t) (pending h c sc top))
-                        (take-alike h first (Together A) (Together (take c (drop c sc))) (Together k) s t (wanted h s t)
-                        (rest ++ pending h c sc top)
-                        (join-yes A (sh .alike-rise) s t s-inside t-inside yes-now)
-                        ready
-                        (b .run))));
-                  };
-            }
-
-        pub pair-pushed : (sc′ : List ℕ) (r : ℕ) → PairPushed c sc top s t sc′ r → Moved h c (alike (slot s) (slot t) ∷ []) sc top [] sc′ r
-        unfolding push-pair stacked
-        pair-pushed sc′ r p =
-            subst (λ (x : List ℕ). Pushed x r) (sym (p .scratch-is))
-            (subst (λ (n : ℕ). Pushed (push-pair c sc top s t .scratch) n) (sym (p .height-is)) (at (joined A s t .widened) refl))
-          where
-            Pushed : List ℕ → ℕ → Type 0
-            Pushed x n = Moved h c (alike (slot s) (slot t) ∷ []) sc top [] x n
-
-            at : (v : Bool) → joined A s t .widened ≡ v → Pushed (stacked v c kept top s t .scratch) (stacked v c kept top s t .top)
-            at true e = new-class e
-            at false e = one-class e
+        pub alike-weight : r ≡ true → weight A + 1 ≤ weight (take c sc′)
+        alike-weight e =
+            subst (λ (l : List ℕ). weight A + 1 ≤ weight l) (sym front-is)
+            (join-weight A (sh .alike-rise) s t s-inside t-inside (sym (told .answer-is) ∙ e))
 
       -- ---- two slots of the walk
 

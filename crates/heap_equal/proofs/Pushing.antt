@@ -1,48 +1,25 @@
--- Two slots joined in a part of the scratch, and put on the stack. Assumes nothing.
-use mathlib.Core.Path.{_≡_, refl, sym, ap, _∙_, subst}
-use mathlib.Core.Bool.{Bool, true, false, not}
+-- Two slots joined in a part of the scratch. Assumes nothing.
+use mathlib.Core.Path.{_≡_, sym, ap, _∙_, subst}
+use mathlib.Core.Bool.{Bool}
 use mathlib.Core.List.{List, _++_}
-use Prim.Native.Nat.{ℕ, _+_, _-_, _*_, _<_}
+use Prim.Native.Nat.{ℕ, _+_, _-_, _<_}
 use native.Mathlib.Omega.{arith}
-use borrow.Author.Tests.{not-true, not-false}
-use lib.ListN.{length, take, drop, set, length-append, length-drop}
+use lib.ListN.{length, take, drop}
 use lib.Seq.{drop-drop}
 use Rattle.leaf_classes.specs.Classes.{Rises, Joins}
-use Rattle.leaf_classes.proofs.Roots.{weight-most}
-use Rattle.heap_equal.specs.Boards.{stacked, push-pair, CanPush, PairPushed, CanJoin, WalksJoined}
+use Rattle.heap_equal.specs.Boards.{CanJoinAlike, AlikeJoined, CanJoin, WalksJoined}
 use Rattle.heap_equal.proofs.Scratch.{front-size, walks-size}
 
-module _ (c : ℕ) (sc : List ℕ) (top s t : ℕ) (pre : CanPush c sc top s t) where
+module _ (c : ℕ) (sc : List ℕ) (s t : ℕ) (pre : CanJoinAlike c sc s t) where
   pub part-size : c ≡ length (take c sc)
   part-size = sym (front-size c sc (pre .room))
 
-  pub join-asks : Rises (take c sc) × ((s < length (take c sc)) × (t < length (take c sc)))
-  join-asks = (pre .rising, (omega (arith, part-size, pre .first), omega (arith, part-size, pre .second)))
+  pub alike-ask : Rises (take c sc) × ((s < length (take c sc)) × (t < length (take c sc)))
+  alike-ask = (pre .rising, (omega (arith, part-size, pre .first), omega (arith, part-size, pre .second)))
 
-  pub stack-room : 2 * c + 2 * top + 1 < length sc
-  stack-room = omega (arith, pre .room, pre .height, weight-most (take c sc), part-size)
-
-  module _ (l : List ℕ) (r : Bool) (told : Joins (take c sc) s t l r) where
-    come-to : (v : Bool) → r ≡ v → (l′ : List ℕ) (n : ℕ) → n ≡ stacked v c (l ++ drop c sc) top s t .top → l′ ≡ stacked v c (l ++ drop c sc) top s t .scratch → PairPushed c sc top s t l′ n
-    unfolding push-pair
-    come-to v e l′ n p q =
-        let v-is = sym e ∙ told .answer-is in
-        record {
-          height-is = p ∙ (λ i. stacked (v-is i) c (told .links-are i ++ drop c sc) top s t .top);
-          scratch-is = q ∙ (λ i. stacked (v-is i) c (told .links-are i ++ drop c sc) top s t .scratch);
-        }
-
-    pub not-pushed : not r ≡ true → PairPushed c sc top s t (l ++ drop c sc) top
-    unfolding stacked
-    not-pushed e = come-to false (not-true r e) (l ++ drop c sc) top refl refl
-
-    pub pushed : not r ≡ false → PairPushed c sc top s t (set (set (l ++ drop c sc) (2 * c + 2 * top) s) (2 * c + 2 * top + 1) t) (top + 1)
-    unfolding stacked
-    pushed e =
-        come-to true (not-false r e) (set (set (l ++ drop c sc) (2 * c + 2 * top) s) (2 * c + 2 * top + 1) t) (top + 1) refl refl
-
-  pub with-part : (l : List ℕ) → length l ≡ length (take c sc) → length (l ++ drop c sc) ≡ length sc
-  with-part l e = omega (arith, length-append l (drop c sc), length-drop c sc, part-size, pre .room)
+  pub alike-joined : (l : List ℕ) (r : Bool) → Joins (take c sc) s t l r → AlikeJoined c sc s t (l ++ drop c sc) r
+  alike-joined l r told =
+      record { answer-is = told .answer-is; scratch-is = ap (λ (m : List ℕ). m ++ drop c sc) (told .links-are) }
 
 module _ (c : ℕ) (sc : List ℕ) (s t : ℕ) (pre : CanJoin c sc s t) where
   once : c + c - c ≡ c

@@ -9,7 +9,7 @@ use lib.Seq.{length-take-le, take-at, drop-at, getD-drop, getD-set-same, getD-se
 use Rattle.rules.specs.Heap.{Heap, in-use}
 use Rattle.leaf_classes.specs.Classes.{Rises, weight}
 use Rattle.heap_equal.specs.Parts.{first-of, second-of, wanted, pending}
-use Rattle.heap_equal.specs.Boards.{Shape}
+use Rattle.heap_equal.specs.Boards.{stacked, Shape}
 
 -- the stack's words up to a height are the same
 pub record Beneath (c top : ℕ) (sc sc′ : List ℕ) : Type 0 where
@@ -72,62 +72,54 @@ module _ (c : ℕ) (sc : List ℕ) (long : 8 * c + 128 ≤ length sc) where
     pub front-beneath : (top : ℕ) → Beneath c top sc (k ++ drop c sc)
     front-beneath top = record { size = front-length; entries = λ n le l. behind n (omega arith) }
 
-    -- ---- and two words on the stack
+-- ---- two words on the stack
 
-    module _ (top s t : ℕ) (room : 2 * c + 2 * top + 1 < length sc) where
-      abbrev at : ℕ
-      at = 2 * c + 2 * top
+module _ (c : ℕ) (sc : List ℕ) (top s t : ℕ) (room : 2 * c + 2 * top + 1 < length sc) where
+  abbrev at : ℕ
+  at = 2 * c + 2 * top
 
-      abbrev one : List ℕ
-      one = set (k ++ drop c sc) at s
+  abbrev one : List ℕ
+  one = set sc at s
 
-      abbrev two : List ℕ
-      two = set one (at + 1) t
+  abbrev two : List ℕ
+  two = stacked c sc top s t
 
-      two-size : length two ≡ length sc
-      two-size = length-set one (at + 1) t ∙ length-set (k ++ drop c sc) at s ∙ front-length
+  pub pushed-front : take c two ≡ take c sc
+  unfolding stacked
+  pushed-front = take-set-le c one (at + 1) t (omega arith) ∙ take-set-le c sc at s (omega arith)
 
-      pub pushed-front : take c two ≡ k
-      pushed-front =
-          take-set-le c one (at + 1) t (omega arith) ∙ take-set-le c (k ++ drop c sc) at s (omega arith) ∙ new-front
+  walks-past : (l : List ℕ) (i x : ℕ) → c + c ≤ i → take c (drop c (set l i x)) ≡ take c (drop c l)
+  walks-past l i x le =
+      let e : c + (i - c) ≡ i = omega arith in
+      ap (λ (n : ℕ). take c (drop c (set l n x))) (sym e)
+      ∙ ap (take c) (drop-set-add c l (i - c) x)
+      ∙ take-set-le c (drop c l) (i - c) x (omega arith)
 
-      walks-past : (l : List ℕ) (i x : ℕ) → c + c ≤ i → take c (drop c (set l i x)) ≡ take c (drop c l)
-      walks-past l i x le =
-          let e : c + (i - c) ≡ i = omega arith in
-          ap (λ (n : ℕ). take c (drop c (set l n x))) (sym e)
-          ∙ ap (take c) (drop-set-add c l (i - c) x)
-          ∙ take-set-le c (drop c l) (i - c) x (omega arith)
+  pub pushed-walks : take c (drop c two) ≡ take c (drop c sc)
+  unfolding stacked
+  pushed-walks = walks-past one (at + 1) t (omega arith) ∙ walks-past sc at s (omega arith)
 
-      pub pushed-walks : take c (drop c two) ≡ take c (drop c sc)
-      pushed-walks =
-          walks-past one (at + 1) t (omega arith)
-          ∙ walks-past (k ++ drop c sc) at s (omega arith)
-          ∙ ap (take c) old-back
+  pub pushed-beneath : Beneath c top sc two
+  unfolding stacked
+  pushed-beneath =
+      record {
+        size = length-set one (at + 1) t ∙ length-set sc at s;
+        entries = λ n le l. getD-set-other one (at + 1) n t 0 (λ e. omega arith) ∙ getD-set-other sc at n s 0 (λ e. omega arith);
+      }
 
-      pub pushed-beneath : Beneath c top sc two
-      pushed-beneath =
-          record {
-            size = two-size;
-            entries = λ n le l.
-                getD-set-other one (at + 1) n t 0 (λ e. omega arith)
-                ∙ getD-set-other (k ++ drop c sc) at n s 0 (λ e. omega arith)
-                ∙ behind n (omega arith);
-          }
+  pub pushed-first : first-of c two top ≡ s
+  unfolding stacked
+  pushed-first = getD-set-other one (at + 1) at t 0 (λ e. omega arith) ∙ getD-set-same sc at s 0 (omega arith)
 
-      pub pushed-first : first-of c two top ≡ s
-      pushed-first =
-          getD-set-other one (at + 1) at t 0 (λ e. omega arith)
-          ∙ getD-set-same (k ++ drop c sc) at s 0 (omega (arith, front-length))
+  pub pushed-second : second-of c two top ≡ t
+  unfolding stacked
+  pushed-second = getD-set-same one (at + 1) t 0 (omega (arith, length-set sc at s))
 
-      pub pushed-second : second-of c two top ≡ t
-      pushed-second =
-          getD-set-same one (at + 1) t 0 (omega (arith, length-set (k ++ drop c sc) at s, front-length))
-
-      pub pushed-pending : (h : Heap) → pending h c two (top + 1) ≡ wanted h s t ++ pending h c sc top
-      unfolding pending
-      pushed-pending h =
-          ap (pending h c two) (add-one top)
-          ∙ (λ i. wanted h (pushed-first i) (pushed-second i) ++ pending-same c top sc two pushed-beneath h top (omega arith) i)
+  pub pushed-pending : (h : Heap) → pending h c two (top + 1) ≡ wanted h s t ++ pending h c sc top
+  unfolding pending
+  pushed-pending h =
+      ap (pending h c two) (add-one top)
+      ∙ (λ i. wanted h (pushed-first i) (pushed-second i) ++ pending-same c top sc two pushed-beneath h top (omega arith) i)
 
 -- ---- the second part changed
 

@@ -20,7 +20,7 @@ use Rattle.rules.specs.Sound.{value-named, vector-block, lies-in, sound, sound-
 use Rattle.rules.specs.Equal.{alike, element-by-element, eqv-cells, equal-rules}
 use Rattle.rules.specs.Calls.{value-in-use, cell-in-use, call-rules}
 use Rattle.rules.proofs.SoundLaws.{clauses, bounds}
-use Rattle.rules.proofs.Good.{Good, element-at, used-slot}
+use Rattle.rules.proofs.Good.{Good, used-slot}
 use Rattle.rules.proofs.GoodSound.{sound-good}
 use Rattle.leaf_cells.specs.Cells.{loaded}
 use Rattle.leaf_cells.specs.Elements.{loaded-element}
@@ -48,7 +48,7 @@ module _ (l : Lent) (ok : sound l ≡ true) where
   -- ---- slots in use
 
   module _ (s : ℕ) (u : in-use h s ≡ true) where
-    pub slot-below : s < capacity h
+    slot-below : s < capacity h
     slot-below = used-slot h s u .below
 
     pub row-inside : 8 * s + 16 ≤ length (l .words)
@@ -64,6 +64,10 @@ module _ (l : Lent) (ok : sound l ≡ true) where
 
     text-within : Within (length (h .bytes)) (cell-at h s)
     text-within = text-used l ok (slot s) (as-value s u)
+
+  pub slots-below : (c : ℕ) → c ≡ capacity h → (s t : ℕ) → UsedSlots h s t → (s < c) × (t < c)
+  slots-below c e s t u =
+      (omega (arith, e, slot-below s (u .first-used)), omega (arith, e, slot-below t (u .second-used)))
 
   pub rows-inside : (s t : ℕ) → UsedSlots h s t → (8 * s + 16 ≤ length (l .words)) × (8 * t + 16 ≤ length (l .words))
   rows-inside s t u = (row-inside s (u .first-used), row-inside t (u .second-used))

@@ -23,34 +23,18 @@ use Rattle.heap_equal.specs.declared.Walked.{Walked}
 use Rattle.heap_equal.specs.declared.Walked.the-variants as walked
 use Rattle.heap_equal.specs.Parts.{first-of, second-of, pending}
 
--- ---- two slots pushed
+-- ---- two slots of one class
 
-pub record Height : Type 0 where
-  pub top : ℕ
-  pub scratch : List ℕ
-
--- two slots on the stack, if the test says so
-unfoldable pub stacked : Bool → ℕ → List ℕ → ℕ → ℕ → ℕ → Height
-stacked true c scratch top s t =
-    record { top = top + 1; scratch = set (set scratch (2 * c + 2 * top) s) (2 * c + 2 * top + 1) t }
-stacked false c scratch top s t = record { top = top; scratch = scratch }
-
--- the classes joined, and the two slots on the stack unless they were of one class
-unfoldable pub push-pair : ℕ → List ℕ → ℕ → ℕ → ℕ → Height
-unfolding stacked
-push-pair c scratch top s t =
-    let j = joined (take c scratch) s t in stacked (j .widened) c (j .links ++ drop c scratch) top s t
-
-pub record PairPushed (c : ℕ) (scratch : List ℕ) (top s t : ℕ) (scratch′ : List ℕ) (r : ℕ) : Type 0 where
-  pub height-is : r ≡ push-pair c scratch top s t .top
-  pub scratch-is : scratch′ ≡ push-pair c scratch top s t .scratch
-
-pub record CanPush (c : ℕ) (scratch : List ℕ) (top s t : ℕ) : Type 0 where
+pub record CanJoinAlike (c : ℕ) (scratch : List ℕ) (s t : ℕ) : Type 0 where
   pub room : 8 * c + 128 ≤ length scratch
   pub rising : Rises (take c scratch)
   pub first : s < c
   pub second : t < c
-  pub height : top ≤ weight (take c scratch)
+
+-- the classes joined, all else as it was
+pub record AlikeJoined (c : ℕ) (scratch : List ℕ) (s t : ℕ) (scratch′ : List ℕ) (r : Bool) : Type 0 where
+  pub answer-is : r ≡ joined (take c scratch) s t .widened
+  pub scratch-is : scratch′ ≡ joined (take c scratch) s t .links ++ drop c scratch
 
 -- ---- two slots of the walk
 
@@ -64,6 +48,15 @@ pub record CanJoin (c : ℕ) (scratch : List ℕ) (s t : ℕ) : Type 0 where
 pub record WalksJoined (c : ℕ) (scratch : List ℕ) (s t : ℕ) (scratch′ : List ℕ) (r : Bool) : Type 0 where
   pub answer-is : r ≡ joined (take c (drop c scratch)) s t .widened
   pub scratch-is : scratch′ ≡ take c scratch ++ (joined (take c (drop c scratch)) s t .links ++ drop (c + c) scratch)
+
+-- ---- two slots on the stack
+
+unfoldable pub stacked : ℕ → List ℕ → ℕ → ℕ → ℕ → List ℕ
+stacked c scratch top s t = set (set scratch (2 * c + 2 * top) s) (2 * c + 2 * top + 1) t
+
+pub record PairPushed (c : ℕ) (scratch : List ℕ) (top s t : ℕ) (scratch′ : List ℕ) (r : ℕ) : Type 0 where
+  pub height-is : r ≡ top + 1
+  pub scratch-is : scratch′ ≡ stacked c scratch top s t
 
 -- ---- the comparison's state
 
@@ -97,6 +90,11 @@ pub record Refuted (h : Heap) (c : ℕ) (goals : List Goal) (scratch : List ℕ)
 pub record Ready (l : Lent) (c : ℕ) (scratch : List ℕ) (top : ℕ) : Type 0 where
   pub lists-sound : sound l ≡ true
   pub shape : Shape (heap-of l) c scratch top
+
+-- two values, one of which is a scalar
+unfoldable pub by-eqv : Bool → ℕ → Next
+by-eqv true top = next.Height top
+by-eqv false top = next.Differs
 
 unfoldable pub NextTold : Heap → ℕ → List Goal → List ℕ → ℕ → List ℕ → Next → Type 0
 NextTold h c goals scratch top scratch′ (next.Height n) = Moved h c goals scratch top [] scratch′ n

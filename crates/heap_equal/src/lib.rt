@@ -1,23 +1,25 @@
 // `equal` of two values (compare.rs). Document 01, "Equality": "true if `eqv`; two pairs, by the pair walk; two vectors of one
 // length, element by element; two strings by content; else false. Pair walk: the cars are `equal`; then, if both cdr cells are
 // pairs, the same again; otherwise `eqv` of the two cells themselves. .. The answer is false exactly when a finite chain of
-// such steps fails." Two slots that are compared once are of one class from then on, and are not compared again; what has been
-// found of two slots by `equal` says nothing of the walk from them, so the walk has classes of its own. The scratch of c slots:
-// c words of classes, c words of the walk's classes, then the pairs of slots whose parts are still to be compared.
+// such steps fails." Two slots become one class before anything of them is compared, strings too, so that no two slots of one
+// class are compared again: the time goes with the slots and elements met, however the data share. What has been found of two
+// slots by `equal` says nothing of the walk from them, so the walk has classes of its own. The scratch of c slots: c words of
+// classes, c words of the walk's classes, then the pairs of slots whose parts are still to be compared.
 use leaf_cells::VCell;
 use leaf_cells::Value;
 ghost use mathlib.Core.Path.{_≡_};
 ghost use mathlib.Core.List.{[], _∷_};
-ghost use Prim.Native.Nat.{_+_, _*_, _≤_};
+ghost use Prim.Native.Nat.{_+_, _*_, _≤_, _<_};
 ghost use lib.ListN.{length};
+ghost use Rattle.rules.specs.Cells.{slot};
 ghost use Rattle.rules.specs.Layout.{heap-of};
-ghost use Rattle.rules.specs.Equal.{alike, Equal};
+ghost use Rattle.rules.specs.Equal.{eqv, alike, Equal};
 ghost use Rattle.leaf_cells.specs.Cells.{loaded};
 ghost use Rattle.leaf_cells.specs.Elements.{value-of};
 ghost use Rattle.heap_sound_rows.specs.Rows.{lists};
 ghost use Rattle.heap_eqv.specs.Eqv.{Comparable};
 ghost use Rattle.heap_equal.specs.Parts.{parted, facing};
-ghost use Rattle.heap_equal.specs.Boards.{CanPush, PairPushed, CanJoin, WalksJoined, Ready, NextTold, Elements, UsedSlots, WalkTold, Decides, Room, Clear, Answered};
+ghost use Rattle.heap_equal.specs.Boards.{CanJoinAlike, AlikeJoined, CanJoin, WalksJoined, PairPushed, Ready, by-eqv, NextTold, Elements, UsedSlots, WalkTold, Decides, Room, Clear, Answered};
 
 // The parts by which two cells are compared: car, cdr, car and cdr of two pairs; the elements' places and number of two vectors
 // of one length; or none.
@@ -65,18 +67,12 @@ fn parts_of(words: &[u64], s: usize, t: usize) -> Parts
     }
 }
 
-// Two slots whose parts are to be compared: on the stack, unless they are of one class.
-fn push_pair(scratch: &mut [u64], c: usize, top: usize, s: usize, t: usize) -> usize
-    requires { ⌜ CanPush c (now scratch) top s t ⌝ }
-    ensures { λ r. ⌜ PairPushed c (now (scratch .entry)) top s t (now (scratch .exit)) r ⌝ }
+// Two slots of one class; false where they were already.
+fn join_alike(scratch: &mut [u64], c: usize, s: usize, t: usize) -> bool
+    requires { ⌜ CanJoinAlike c (now scratch) s t ⌝ }
+    ensures { λ r. ⌜ AlikeJoined c (now (scratch .entry)) s t (now (scratch .exit)) r ⌝ }
 {
-    if !leaf_classes::join(&mut scratch[..c], s, t) {
-        return top;
-    }
-    let at = 2 * c + 2 * top;
-    scratch[at] = s as u64;
-    scratch[at + 1] = t as u64;
-    top + 1
+    leaf_classes::join(&mut scratch[..c], s, t)
 }
 
 // Two slots of one class of the walk; false where they were already.
@@ -88,7 +84,67 @@ fn join_walks(scratch: &mut [u64], c: usize, s: usize, t: usize) -> bool
     leaf_classes::join(&mut scratch[c..end], s, t)
 }
 
-// Two values that should be `equal`: they are if they are `eqv`; otherwise their parts have to be.
+// Two slots on the stack.
+fn push_pair(scratch: &mut [u64], c: usize, top: usize, s: usize, t: usize) -> usize
+    requires { ⌜ 2 * c + 2 * top + 1 < length (now scratch) ⌝ }
+    ensures { λ r. ⌜ PairPushed c (now (scratch .entry)) top s t (now (scratch .exit)) r ⌝ }
+{
+    let at = 2 * c + 2 * top;
+    scratch[at] = s as u64;
+    scratch[at + 1] = t as u64;
+    top + 1
+}
+
+// Two slots that should be `equal`: nothing is to do where they are of one class, which they are from now on; they are if they
+// are `eqv`; otherwise their parts have to be.
+fn push_slots(
+    words: &[u64],
+    map: &[u8],
+    bytes: &[u8],
+    elems: &[u64],
+    scratch: &mut [u64],
+    c: usize,
+    top: usize,
+    s: usize,
+    t: usize,
+) -> Next
+    requires { ⌜ Ready (lists (now words) (now map) (now bytes) (now elems)) c (now scratch) top ⌝ }
+    requires { ⌜ UsedSlots (heap-of (lists (now words) (now map) (now bytes) (now elems))) s t ⌝ }
+    ensures { λ r. ⌜ NextTold (heap-of (lists (now (words .entry)) (now (map .entry)) (now (bytes .entry)) (now (elems .entry)))) c (alike (slot s) (slot t) ∷ []) (now (scratch .entry)) top (now (scratch .exit)) r ⌝ }
+{
+    if !join_alike(scratch, c, s, t) {
+        return Next::Height(top);
+    }
+    if heap_eqv::eqv(words, map, bytes, elems, Value::Slot(s), Value::Slot(t)) {
+        return Next::Height(top);
+    }
+    let parts = parts_of(words, s, t);
+    match parts {
+        Parts::Unlike => Next::Differs,
+        _ => Next::Height(push_pair(scratch, c, top, s, t)),
+    }
+}
+
+// Two values, one of which is a scalar: they are `eqv`, or they differ.
+fn push_scalar(
+    words: &[u64],
+    map: &[u8],
+    bytes: &[u8],
+    elems: &[u64],
+    top: usize,
+    v: Value,
+    w: Value,
+) -> Next
+    requires { ⌜ Comparable (lists (now words) (now map) (now bytes) (now elems)) (value-of v) (value-of w) ⌝ }
+    ensures { λ r. ⌜ r ≡ by-eqv (eqv (heap-of (lists (now (words .entry)) (now (map .entry)) (now (bytes .entry)) (now (elems .entry)))) (value-of v) (value-of w)) top ⌝ }
+{
+    if heap_eqv::eqv(words, map, bytes, elems, v, w) {
+        return Next::Height(top);
+    }
+    Next::Differs
+}
+
+// Two values that should be `equal`.
 fn push_alike(
     words: &[u64],
     map: &[u8],
@@ -104,20 +160,13 @@ fn push_alike(
     requires { ⌜ Comparable (lists (now words) (now map) (now bytes) (now elems)) (value-of v) (value-of w) ⌝ }
     ensures { λ r. ⌜ NextTold (heap-of (lists (now (words .entry)) (now (map .entry)) (now (bytes .entry)) (now (elems .entry)))) c (alike (value-of v) (value-of w) ∷ []) (now (scratch .entry)) top (now (scratch .exit)) r ⌝ }
 {
-    if heap_eqv::eqv(words, map, bytes, elems, v, w) {
-        return Next::Height(top);
-    }
     let Value::Slot(s) = v else {
-        return Next::Differs;
+        return push_scalar(words, map, bytes, elems, top, v, w);
     };
     let Value::Slot(t) = w else {
-        return Next::Differs;
+        return push_scalar(words, map, bytes, elems, top, v, w);
     };
-    let parts = parts_of(words, s, t);
-    match parts {
-        Parts::Unlike => Next::Differs,
-        _ => Next::Height(push_pair(scratch, c, top, s, t)),
-    }
+    push_slots(words, map, bytes, elems, scratch, c, top, s, t)
 }
 
 // "two vectors of one length, element by element"
@@ -152,7 +201,7 @@ fn push_elements(
     Next::Height(height)
 }
 
-// One step of the pair walk.
+// One step of the pair walk. Here too the two slots become one class before their cells are compared.
 fn walk_step(
     words: &[u64],
     map: &[u8],
@@ -168,6 +217,9 @@ fn walk_step(
     requires { ⌜ UsedSlots (heap-of (lists (now words) (now map) (now bytes) (now elems))) s t ⌝ }
     ensures { λ r. ⌜ WalkTold (heap-of (lists (now (words .entry)) (now (map .entry)) (now (bytes .entry)) (now (elems .entry)))) c s t (now (scratch .entry)) top (now (scratch .exit)) r ⌝ }
 {
+    if !join_walks(scratch, c, s, t) {
+        return Walked::Ends;
+    }
     let parts = parts_of(words, s, t);
     let Parts::Pairs(a, d, b, e) = parts else {
         let x = leaf_cells::load(words, s);
@@ -177,9 +229,6 @@ fn walk_step(
         }
         return Walked::Differs;
     };
-    if !join_walks(scratch, c, s, t) {
-        return Walked::Ends;
-    }
     let next = push_alike(
         words,
         map,

@@ -1,6 +1,6 @@
--- `eqv` of two cells by their kinds and words, and the same slot by two values' words. Assumes nothing.
+-- The text of one part, `eqv` of two cells by their kinds and words, and the same slot by two values' words. Assumes nothing.
 use mathlib.Core.Path.{_≡_, refl, sym, ap, _∙_}
-use mathlib.Core.Bool.{Bool, false}
+use mathlib.Core.Bool.{Bool, true, false}
 use mathlib.Core.List.{List, [], _∷_}
 use mathlib.Core.Logic.{_⊎_, inl, inr, ⊎-elim}
 use Prim.Native.Nat.{ℕ, zero, suc, _+_, _≤_}
@@ -9,6 +9,7 @@ use borrow.Author.Tests.{eq-eqb, ne-eqb}
 use lib.Dec.{eqb}
 use lib.ListN.{getD}
 use Rattle.laws.specs.Basics.{choose, both, same}
+use Rattle.laws.proofs.Tests.{same-refl}
 use Rattle.rules.specs.Cells.{Scalar, undefined, nil, eof, void, bool, char, number, Value, slot, scalar, Block, block, Cell, plain, pair, symbol, string, vector}
 use Rattle.rules.specs.Heap.{part-of}
 use Rattle.rules.specs.Layout.{scalar-words, cell-words, value-words, layout-rules}
@@ -31,6 +32,13 @@ each-cell P p0 p1 p2 p3 p4 p5 p6 p7 p8 p9 p10 (string b) = p7 b
 each-cell P p0 p1 p2 p3 p4 p5 p6 p7 p8 p9 p10 (symbol b) = p8 b
 each-cell P p0 p1 p2 p3 p4 p5 p6 p7 p8 p9 p10 (pair a d) = p9 a d
 each-cell P p0 p1 p2 p3 p4 p5 p6 p7 p8 p9 p10 (vector b) = p10 b
+
+-- ---- texts
+
+-- a part of the bytes has its own text
+pub same-part : (bytes : List ℕ) (p m q n : ℕ) → p ≡ q → m ≡ n → true ≡ same (part-of bytes (block p m)) (part-of bytes (block q n))
+same-part bytes p m q n e f =
+    sym (same-refl (part-of bytes (block p m))) ∙ (λ i. same (part-of bytes (block p m)) (part-of bytes (block (e i) (f i))))
 
 -- ---- cells
 
