@@ -16,6 +16,7 @@ unsafe extern "C" {
     fn talvongre_read(w: *const u64, wl: usize, m: *const u8, ml: usize, b: *const u8, bl: usize, e: *const u64, el: usize, s: *mut u64, sl: usize, o: *mut u8, ol: usize, kind: u64, a: u64, length: &mut u64) -> u32;
     fn talvongre_equal(w: *const u64, wl: usize, m: *const u8, ml: usize, b: *const u8, bl: usize, e: *const u64, el: usize, s: *mut u64, sl: usize, kind: u64, a: u64, kind2: u64, a2: u64, truth: &mut u64) -> u32;
     fn talvongre_cell_store(w: *mut u64, wl: usize, m: *const u8, ml: usize, b: *const u8, bl: usize, e: *const u64, el: usize, slot: u64, kind: u64, a: u64, b2: u64) -> u32;
+    fn talvongre_element_store(w: *const u64, wl: usize, m: *const u8, ml: usize, b: *const u8, bl: usize, e: *mut u64, el: usize, slot: u64, k: u64, kind: u64, a: u64) -> u32;
     fn talvongre_used(w: *const u64, wl: usize, m: *const u8, ml: usize, b: *const u8, bl: usize, e: *const u64, el: usize, count: &mut u64) -> u32;
 }
 
@@ -114,6 +115,16 @@ impl Port {
 
     fn pair_store(&mut self, slot: u64, car: u64, cdr: u64) {
         assert_eq!(port!(talvongre_cell_store, self, slot, 9, car, cdr), 0);
+    }
+
+    fn slot_store(&mut self, slot: u64, index: u64, value: u64) {
+        assert_eq!(port!(talvongre_element_store, self, slot, index, 15, value), 0);
+    }
+
+    /// The slots that show the same vector as this one.
+    fn sharing(&self, slot: u64) -> Vec<u64> {
+        let row = |s: usize| &self.words[8 + 8 * s..11 + 8 * s];
+        (0..self.words[1]).filter(|s| row(*s as usize) == row(slot as usize)).collect()
     }
 
     fn used(&mut self) -> u64 {
@@ -238,7 +249,7 @@ fn ring(n: usize) -> Vec<String> {
 
 fn equality() {
     println!("\n{:<34} {:>6} {:>10} {:>10} {:>10} {:>9}", "equal, microseconds", "slots", "whole", "less check", "the Rust", "to before");
-    for name in ["two lists", "two wide vectors of strings", "sharing at each step, twice", "rings of unlike periods"] {
+    for name in ["two lists", "two wide vectors of strings", "many slots of two blocks", "sharing at each step, twice", "rings of unlike periods"] {
         let mut before = 0.0;
         for slots in [256, 512, 1024, 2048, 4096] {
             let mut data: Vec<Vec<String>> = Vec::new();
@@ -248,6 +259,16 @@ fn equality() {
                     let mut one = vec![format!("vec={}", slots / 4)];
                     one.extend(vec!["str=6162".to_string(); slots / 4]);
                     data.extend(vec![one; 2]);
+                }
+                "many slots of two blocks" => {
+                    // a vector of 64 times one text of 1,024 bytes, which an eighth of the slots show; and a vector for those slots
+                    let copies = slots / 8;
+                    let mut block: Vec<String> = (1..copies).map(|k| format!("def={}", k % 63)).collect();
+                    block.extend(["vec=64".into(), "def=63".into(), format!("str={}", "61".repeat(1024))]);
+                    block.extend(vec!["ref=63".to_string(); 63]);
+                    let mut holder = vec![format!("vec={copies}")];
+                    holder.extend(vec!["nil=".to_string(); copies]);
+                    data.extend([holder.clone(), holder, block.clone(), block]);
                 }
                 "rings of unlike periods" => data.extend([ring(slots / 4 - 1), ring(slots / 4 - 2)]),
                 _ => data.extend(vec![list(slots / 4 - 1); 2]),
@@ -261,6 +282,14 @@ fn equality() {
                         port.pair_store(at as u64, next as u64, next as u64);
                         rust.cell_store(at, VCell::Pair(next, next));
                         at = next;
+                    }
+                }
+            }
+            if name.starts_with("many") {
+                for k in 0..2 {
+                    for (index, slot) in port.sharing(roots[2 + k]).into_iter().enumerate() {
+                        port.slot_store(roots[k], index as u64, slot);
+                        rust.element_store(roots[k] as usize, index, VCell::Ptr(slot as usize));
                     }
                 }
             }
