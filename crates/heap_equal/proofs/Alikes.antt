@@ -2,20 +2,16 @@
 use mathlib.Core.Path.{_≡_, refl, sym, ap, _∙_, subst}
 use mathlib.Core.Bool.{Bool, true, false}
 use mathlib.Core.List.{List, [], _∷_}
-use mathlib.Core.Logic.{_⊎_, ⊎-elim}
-use Prim.Native.Nat.{ℕ, suc, _+_, _*_, _≤_, _<_}
-use native.Mathlib.Omega.{arith}
+use Prim.Native.Nat.{ℕ, _+_, _*_, _≤_, _<_}
 use lib.ListN.{length}
-use Rattle.rules.specs.Cells.{Scalar, undefined, nil, eof, void, bool, char, number, Value, slot, scalar, Block, vector}
+use Rattle.rules.specs.Cells.{Value, slot, Block, vector}
 use Rattle.rules.specs.Heap.{Heap, cell-at, elements-of}
 use Rattle.rules.specs.Layout.{Lent, heap-of}
 use Rattle.rules.specs.Equal.{eqv, Goal, alike, fails, slots-step, unlike-step, step, equal-rules}
 use Rattle.rules.specs.Calls.{value-in-use}
 use Rattle.equal_laws.proofs.Steps.{step-eqv, step-unlike, step-slots}
 use Rattle.leaf_cells.specs.Cells.{loaded}
-use Rattle.leaf_cells.specs.Elements.{value-of}
-use Rattle.leaf_cells.specs.declared.Value as given
-use Rattle.leaf_cells.specs.declared.Value.the-variants as value
+use Rattle.leaf_cells.proofs.Variants.{Plain}
 use Rattle.heap_eqv.specs.Eqv.{Comparable}
 use Rattle.heap_equal.specs.declared.Parts.{Parts}
 use Rattle.heap_equal.specs.declared.Parts.the-variants.{Unlike}
@@ -25,28 +21,6 @@ use Rattle.heap_equal.specs.Boards.{CanPush, PairPushed, Ready, Moved, N
 use Rattle.heap_equal.proofs.CellParts.{unlike-fails, like-needs}
 use Rattle.heap_equal.proofs.SoundLists.{slot-below, rows-inside, parts-loaded, elements-whole}
 use Rattle.heap_equal.proofs.Moves.{step-fails, needless, pair-pushed}
-
--- ---- the variants of a value
-
--- a variant from 1 on is not the first
-pub not-first : (x : ℕ) → (x ≡ 1) ⊎ ((x ≡ 2) ⊎ ((x ≡ 3) ⊎ ((x ≡ 4) ⊎ ((x ≡ 5) ⊎ ((x ≡ 6) ⊎ (x ≡ 7)))))) → x ≡ 0 → ⊥
-not-first x o z =
-    let off : (k : ℕ) → x ≡ suc k → ⊥ = λ k e. omega arith in
-    ⊎-elim (off 0) (⊎-elim (off 1) (⊎-elim (off 2) (⊎-elim (off 3) (⊎-elim (off 4) (⊎-elim (off 5) (off 6)))))) o
-
-pub record Scalar-given (v : Value) : Type 0 where
-  pub which : Scalar
-  pub is : v ≡ scalar which
-
-pub scalar-given : (v : given.Value) → ((s : ℕ) → v ≡ value.Slot s → ⊥) → Scalar-given (value-of v)
-scalar-given (value.Slot s) no-slot = absurd (no-slot s refl)
-scalar-given value.Undefined no-slot = record { which = undefined; is = refl }
-scalar-given value.Nil no-slot = record { which = nil; is = refl }
-scalar-given value.Eof no-slot = record { which = eof; is = refl }
-scalar-given value.Void no-slot = record { which = void; is = refl }
-scalar-given (value.Bool b) no-slot = record { which = bool b; is = refl }
-scalar-given (value.Char n) no-slot = record { which = char n; is = refl }
-scalar-given (value.Number n) no-slot = record { which = number n; is = refl }
 
 -- ---- what is found
 
@@ -68,12 +42,12 @@ module _ (l : Lent) (c : ℕ) (sc : List ℕ) (top : ℕ) (v w : Value) (pre : R
       unfolding NextTold
       goal-fails e sc′ = step-fails h c sc top (alike v w) e
 
-      pub first-scalar : Scalar-given v → NextTold h c (alike v w ∷ []) sc top sc next.Differs
+      pub first-scalar : Plain v → NextTold h c (alike v w ∷ []) sc top sc next.Differs
       unfolding equal-rules
       first-scalar x =
           goal-fails (step-unlike h v w not-eqv ∙ ap (λ (y : Value). unlike-step h y w) (x .is)) sc
 
-      pub second-scalar : (s : ℕ) → v ≡ slot s → Scalar-given w → NextTold h c (alike v w ∷ []) sc top sc next.Differs
+      pub second-scalar : (s : ℕ) → v ≡ slot s → Plain w → NextTold h c (alike v w ∷ []) sc top sc next.Differs
       unfolding equal-rules
       second-scalar s vs y =
           goal-fails (step-unlike h v w not-eqv ∙ (λ i. unlike-step h (vs i) (y .is i))) sc

@@ -2,14 +2,14 @@
 use mathlib.Core.Path.{_≡_, refl, sym, ap, _∙_}
 use mathlib.Core.Bool.{Bool, true, false}
 use mathlib.Core.List.{[], _∷_}
-use mathlib.Core.Logic.{_⊎_, ⊎-elim}
-use Prim.Native.Nat.{ℕ, _<_}
+use Prim.Native.Nat.{ℕ}
 use native.Mathlib.Omega.{arith}
 use borrow.Author.Tests.{eqb-true, eqb-false, eq-eqb, ne-eqb}
 use denote.Enum.Declared.{tagOf}
 use lib.Dec.{eqb}
 use lib.ListN.{length}
 use Rattle.laws.specs.Basics.{choose}
+use Rattle.laws.proofs.Variants.{clash}
 use Rattle.rules.specs.Cells.{Block, block, Cell, plain, pair, symbol, string, vector}
 use Rattle.rules.specs.Heap.{Heap, cell-at, elements-of}
 use Rattle.rules.specs.Equal.{walks, Step, fails, needs, element-by-element, vectors-step, slots-step, walk-step, holds-if, eqv-cells, equal-rules}
@@ -28,17 +28,7 @@ use Rattle.heap_equal.proofs.Walked.{the-type as walked-type}
 use Rattle.heap_equal.proofs.Next.{the-type as next-type}
 use Rattle.heap_equal.specs.Parts.{blocks-parted, parted, needed, wanted, part-rules}
 
-differ : {A : Type 0} → _≡_ {A = ℕ} 0 1 → A
-differ e = absurd (omega arith)
-
 -- ---- how the code finds it
-
--- pairs and vectors are the first two variants of the parts
-pub like-variant : (x : ℕ) → (x ≡ 0) ⊎ (x ≡ 1) → x ≡ 2 → ⊥
-like-variant x o is = ⊎-elim (λ e. omega arith) (λ e. omega arith) o
-
-pub pairs-first : (x : ℕ) → (x ≡ 1) ⊎ (x ≡ 2) → x ≡ 0 → ⊥
-pairs-first x o is = ⊎-elim (λ e. omega arith) (λ e. omega arith) o
 
 pub last-variant : (p : Parts) → tagOf the-type p ≡ 2 → p ≡ Unlike
 last-variant (Pairs a d b e) is = absurd (omega (arith, is))
@@ -58,22 +48,6 @@ pub third-walked : (x : Walked) → tagOf walked-type x ≡ 2 → x ≡ walked.D
 third-walked (walked.On n d e) is = absurd (omega (arith, is))
 third-walked walked.Ends is = absurd (omega (arith, is))
 third-walked walked.Differs is = refl
-
--- the numbers of the variants of a cell that is no pair; no vector; neither
-pub no-pair : (x : ℕ) → ((x ≡ 0) ⊎ ((x ≡ 1) ⊎ ((x ≡ 2) ⊎ ((x ≡ 3) ⊎ ((x ≡ 4) ⊎ ((x ≡ 5) ⊎ ((x ≡ 6) ⊎ ((x ≡ 8) ⊎ ((x ≡ 9) ⊎ (x ≡ 10)))))))))) → x ≡ 7 → ⊥
-no-pair x o is =
-    let off : (k : ℕ) → (k ≡ 7 → ⊥) → x ≡ k → ⊥ = λ k ne e. ne (sym e ∙ is) in
-    ⊎-elim (off 0 (λ z. omega arith)) (⊎-elim (off 1 (λ z. omega arith)) (⊎-elim (off 2 (λ z. omega arith)) (⊎-elim (off 3 (λ z. omega arith)) (⊎-elim (off 4 (λ z. omega arith)) (⊎-elim (off 5 (λ z. omega arith)) (⊎-elim (off 6 (λ z. omega arith)) (⊎-elim (off 8 (λ z. omega arith)) (⊎-elim (off 9 (λ z. omega arith)) (off 10 (λ z. omega arith)))))))))) o
-
-pub no-vector : (x : ℕ) → ((x ≡ 0) ⊎ ((x ≡ 1) ⊎ ((x ≡ 2) ⊎ ((x ≡ 3) ⊎ ((x ≡ 4) ⊎ ((x ≡ 5) ⊎ ((x ≡ 6) ⊎ ((x ≡ 7) ⊎ ((x ≡ 8) ⊎ (x ≡ 9)))))))))) → x ≡ 10 → ⊥
-no-vector x o is =
-    let off : (k : ℕ) → (k ≡ 10 → ⊥) → x ≡ k → ⊥ = λ k ne e. ne (sym e ∙ is) in
-    ⊎-elim (off 0 (λ z. omega arith)) (⊎-elim (off 1 (λ z. omega arith)) (⊎-elim (off 2 (λ z. omega arith)) (⊎-elim (off 3 (λ z. omega arith)) (⊎-elim (off 4 (λ z. omega arith)) (⊎-elim (off 5 (λ z. omega arith)) (⊎-elim (off 6 (λ z. omega arith)) (⊎-elim (off 7 (λ z. omega arith)) (⊎-elim (off 8 (λ z. omega arith)) (off 9 (λ z. omega arith)))))))))) o
-
-pub neither-two : (x : ℕ) → ((x ≡ 0) ⊎ ((x ≡ 1) ⊎ ((x ≡ 2) ⊎ ((x ≡ 3) ⊎ ((x ≡ 4) ⊎ ((x ≡ 5) ⊎ ((x ≡ 6) ⊎ ((x ≡ 8) ⊎ (x ≡ 9))))))))) → (x ≡ 7) ⊎ (x ≡ 10) → ⊥
-neither-two x o is =
-    let off : (k : ℕ) → k < 10 → (k ≡ 7 → ⊥) → x ≡ k → ⊥ = λ k low ne e. ⊎-elim (λ p. ne (sym e ∙ p)) (λ p. omega arith) is in
-    ⊎-elim (off 0 (omega arith) (λ z. omega arith)) (⊎-elim (off 1 (omega arith) (λ z. omega arith)) (⊎-elim (off 2 (omega arith) (λ z. omega arith)) (⊎-elim (off 3 (omega arith) (λ z. omega arith)) (⊎-elim (off 4 (omega arith) (λ z. omega arith)) (⊎-elim (off 5 (omega arith) (λ z. omega arith)) (⊎-elim (off 6 (omega arith) (λ z. omega arith)) (⊎-elim (off 8 (omega arith) (λ z. omega arith)) (off 9 (omega arith) (λ z. omega arith))))))))) o
 
 module _ (x y : VCell) (c d : Cell) (p : cell-of x ≡ c) (q : cell-of y ≡ d) where
   pub told : parted (cell-of x) (cell-of y) ≡ parted c d
@@ -145,38 +119,38 @@ vector-alone s (cell.Vector t n) u = absurd (u t n refl)
 
 pub pairs-are : (c d : Cell) (a e b f : ℕ) → Pairs a e b f ≡ parted c d → (c ≡ pair a e) × (d ≡ pair b f)
 unfolding part-rules
-pairs-are (plain x) d a e b f q = differ (cc)
-pairs-are (symbol x) d a e b f q = differ (cc)
-pairs-are (string x) d a e b f q = differ (cc)
-pairs-are (pair a′ e′) (plain x) a e b f q = differ (cc)
-pairs-are (pair a′ e′) (symbol x) a e b f q = differ (cc)
-pairs-are (pair a′ e′) (string x) a e b f q = differ (cc)
-pairs-are (pair a′ e′) (vector x) a e b f q = differ (cc)
+pairs-are (plain x) d a e b f q = clash (cc)
+pairs-are (symbol x) d a e b f q = clash (cc)
+pairs-are (string x) d a e b f q = clash (cc)
+pairs-are (pair a′ e′) (plain x) a e b f q = clash (cc)
+pairs-are (pair a′ e′) (symbol x) a e b f q = clash (cc)
+pairs-are (pair a′ e′) (string x) a e b f q = clash (cc)
+pairs-are (pair a′ e′) (vector x) a e b f q = clash (cc)
 pairs-are (pair a′ e′) (pair b′ f′) a e b f q = (cc, cc)
-pairs-are (vector x) (plain y) a e b f q = differ (cc)
-pairs-are (vector x) (symbol y) a e b f q = differ (cc)
-pairs-are (vector x) (string y) a e b f q = differ (cc)
-pairs-are (vector x) (pair y z) a e b f q = differ (cc)
+pairs-are (vector x) (plain y) a e b f q = clash (cc)
+pairs-are (vector x) (symbol y) a e b f q = clash (cc)
+pairs-are (vector x) (string y) a e b f q = clash (cc)
+pairs-are (vector x) (pair y z) a e b f q = clash (cc)
 pairs-are (vector x) (vector y) a e b f q = at (eqb (x .size) (y .size)) q
   where
     at : (t : Bool) → Pairs a e b f ≡ choose t (Vectors (x .place) (y .place) (x .size)) Unlike → (vector x ≡ pair a e) × (vector y ≡ pair b f)
-    at true r = differ (cc)
-    at false r = differ (cc)
+    at true r = clash (cc)
+    at false r = clash (cc)
 
 pub vectors-are : (c d : Cell) (p q n : ℕ) → Vectors p q n ≡ parted c d → (c ≡ vector (block p n)) × (d ≡ vector (block q n))
 unfolding part-rules
-vectors-are (plain x) d p q n e = differ (cc)
-vectors-are (symbol x) d p q n e = differ (cc)
-vectors-are (string x) d p q n e = differ (cc)
-vectors-are (pair a b) (plain x) p q n e = differ (cc)
-vectors-are (pair a b) (symbol x) p q n e = differ (cc)
-vectors-are (pair a b) (string x) p q n e = differ (cc)
-vectors-are (pair a b) (vector x) p q n e = differ (cc)
-vectors-are (pair a b) (pair x y) p q n e = differ (cc)
-vectors-are (vector x) (plain y) p q n e = differ (cc)
-vectors-are (vector x) (symbol y) p q n e = differ (cc)
-vectors-are (vector x) (string y) p q n e = differ (cc)
-vectors-are (vector x) (pair y z) p q n e = differ (cc)
+vectors-are (plain x) d p q n e = clash (cc)
+vectors-are (symbol x) d p q n e = clash (cc)
+vectors-are (string x) d p q n e = clash (cc)
+vectors-are (pair a b) (plain x) p q n e = clash (cc)
+vectors-are (pair a b) (symbol x) p q n e = clash (cc)
+vectors-are (pair a b) (string x) p q n e = clash (cc)
+vectors-are (pair a b) (vector x) p q n e = clash (cc)
+vectors-are (pair a b) (pair x y) p q n e = clash (cc)
+vectors-are (vector x) (plain y) p q n e = clash (cc)
+vectors-are (vector x) (symbol y) p q n e = clash (cc)
+vectors-are (vector x) (string y) p q n e = clash (cc)
+vectors-are (vector x) (pair y z) p q n e = clash (cc)
 vectors-are (vector x) (vector y) p q n e = at (eqb (x .size) (y .size)) refl e
   where
     at : (t : Bool) → eqb (x .size) (y .size) ≡ t → Vectors p q n ≡ choose t (Vectors (x .place) (y .place) (x .size)) Unlike → (vector x ≡ vector (block p n)) × (vector y ≡ vector (block q n))
@@ -186,7 +160,7 @@ vectors-are (vector x) (vector y) p q n e = at (eqb (x .size) (y .size)) refl e
         let k : n ≡ x .size = cc in
         let m = eqb-true (x .size) (y .size) u in
         (sym (λ z. vector (block (i z) (k z))), sym (λ z. vector (block (j z) ((k ∙ m) z))))
-    at false u r = differ (cc)
+    at false u r = clash (cc)
 
 -- ---- the step of two slots
 
@@ -200,7 +174,7 @@ module _ (h : Heap) (s t : ℕ) where
   blocks-fail b c k l e = at (eqb (b .size) (c .size)) refl e
     where
       at : (u : Bool) → eqb (b .size) (c .size) ≡ u → Unlike ≡ choose u (Vectors (b .place) (c .place) (b .size)) Unlike → vectors-step (elements-of h b) (elements-of h c) ≡ fails
-      at true u r = differ (cc)
+      at true u r = clash (cc)
       at false u r = two-lengths (elements-of h b) (elements-of h c) (λ m. eqb-false (b .size) (c .size) u (sym k ∙ m ∙ l))
 
   blocks-need : (b c : Block) → length (elements-of h b) ≡ b .size → length (elements-of h c) ≡ c .size → (Unlike ≡ blocks-parted b c → ⊥) → vectors-step (elements-of h b) (elements-of h c) ≡ needs (element-by-element (elements-of h b) (elements-of h c))
@@ -220,7 +194,7 @@ module _ (h : Heap) (s t : ℕ) where
   unlike-fails (pair a b) (symbol x) k l e = refl
   unlike-fails (pair a b) (string x) k l e = refl
   unlike-fails (pair a b) (vector x) k l e = refl
-  unlike-fails (pair a b) (pair x y) k l e = differ (cc)
+  unlike-fails (pair a b) (pair x y) k l e = clash (cc)
   unlike-fails (vector x) (plain y) k l e = refl
   unlike-fails (vector x) (symbol y) k l e = refl
   unlike-fails (vector x) (string y) k l e = refl

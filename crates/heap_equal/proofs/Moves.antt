@@ -6,10 +6,8 @@ use mathlib.Core.Logic.{⊎-elim}
 use Prim.Native.Nat.{ℕ, suc, _+_, _-_, _*_, _≤_, _<_}
 use native.Mathlib.Omega.{arith}
 use lib.ListN.{length, take, drop, set}
-use lib.Seq.{drop-at}
 use Rattle.laws.specs.Basics.{zeros}
-use Rattle.laws.proofs.Zeros.{take-zeros, zeros-append}
-use Rattle.laws.proofs.Lists.{length-zeros}
+use Rattle.laws.proofs.Zeros.{take-zeros, drop-zeros}
 use Rattle.rules.specs.Cells.{Value, slot}
 use Rattle.rules.specs.Heap.{Heap, capacity, in-use}
 use Rattle.rules.specs.Equal.{Goal, alike, walks, fails, needs, step, Fails, now, Equal}
@@ -28,13 +26,6 @@ swap-in a b c g m =
     ⊎-elim (λ p. Memᴰ·append-right b (Memᴰ·append-left c p))
     (λ p. ⊎-elim (λ q. Memᴰ·append-left (a ++ c) q) (λ q. Memᴰ·append-right b (Memᴰ·append-right a q)) (List·Memᴰ·append-cases b p))
     (List·Memᴰ·append-cases a m)
-
-drop-zeros : (a n : ℕ) → a ≤ n → drop a (zeros n) ≡ zeros (n - a)
-drop-zeros a n le =
-    let e : a + (n - a) ≡ n = omega arith in
-    ap (λ (m : ℕ). drop a (zeros m)) (sym e)
-    ∙ ap (drop a) (sym (zeros-append a (n - a)))
-    ∙ drop-at (zeros a) (zeros (n - a)) a (length-zeros a)
 
 module _ (h : Heap) (c : ℕ) where
   -- ---- moves one after the other

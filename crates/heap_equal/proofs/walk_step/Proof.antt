@@ -1,13 +1,15 @@
 -- `heap_equal::walk_step`: two cells that are not both pairs end the walk; two pairs that were met do so too. Assumes nothing.
-use mathlib.Core.Path.{ap}
+use mathlib.Core.Path.{refl}
+use mathlib.Core.List.{[], _∷_}
 use denote.Enum.Declared.{tagOf}
 use Rattle.leaf_cells.specs.Cells.{cell-of}
 use Rattle.heap_sound_rows.specs.Rows.{lists}
 use Rattle.heap_equal.specs.declared.Parts.{Parts}
 use Rattle.heap_equal.proofs.Parts.{the-type}
-use Rattle.heap_equal.proofs.CellParts.{pairs-first, second-next}
+use Rattle.heap_equal.proofs.CellParts.{second-next}
 use Rattle.heap_equal.proofs.Walking.{rows-there, can-join, texts-there, walk-over, walk-fails, walk-met, cars-ask, walk-on, walk-stops}
 use borrow.Author.Needs.{needs}
+use Rattle.laws.proofs.Variants.{other-variant}
 use Rattle.heap_equal.proofs.walk_step.Statement.{statement}
 use Rattle.heap_equal.proofs.walk_step.Tie as tie
 
@@ -27,10 +29,10 @@ eqv-cells-requires : tie.Need-eqv-cells-requires
 eqv-cells-requires c κs = texts-there (lists (c .before .before .before .before .before .before .before .before .before .args .words .now) (c .before .before .before .before .before .before .before .before .before .args .map .now) (c .before .before .before .before .before .before .before .before .before .args .bytes .now) (c .before .before .before .before .before .before .before .before .before .args .elems .now)) (c .before .before .before .before .before .before .before .before .before .args .c) (c .before .before .before .before .before .before .before .before .before .args .scratch .now) (c .before .before .before .before .before .before .before .before .before .args .top) (c .before .before .before .before .before .before .before .before .before .args .s) (c .before .before .before .before .before .before .before .before .before .args .t) (c .before .before .before .before .before .before .before .before .before .pre) (cell-of (c .before .load .result)) (cell-of (c .load2 .result)) (c .before .load .ensures) (c .load2 .ensures)
 
 returns : tie.Need-returns
-returns c = walk-over (lists (c .before .before .before .before .before .before .before .before .before .before .before .args .words .now) (c .before .before .before .before .before .before .before .before .before .before .before .args .map .now) (c .before .before .before .before .before .before .before .before .before .before .before .args .bytes .now) (c .before .before .before .before .before .before .before .before .before .before .before .args .elems .now)) (c .before .before .before .before .before .before .before .before .before .before .before .args .c) (c .before .before .before .before .before .before .before .before .before .before .before .args .scratch .now) (c .before .before .before .before .before .before .before .before .before .before .before .args .top) (c .before .before .before .before .before .before .before .before .before .before .before .args .s) (c .before .before .before .before .before .before .before .before .before .before .before .args .t) (c .before .before .before .before .before .before .before .before .before .before .before .pre) (c .before .before .before .before .before .parts-of .result) (c .before .before .before .before .before .parts-of .ensures) (λ a d b e q. pairs-first _ (c .before .before .before .before .match .keys2) (ap (λ (x : Parts). tagOf the-type x) q)) (cell-of (c .before .before .before .load .result)) (cell-of (c .before .before .load2 .result)) (c .before .eqv-cells .result) (c .before .before .before .load .ensures) (c .before .before .load2 .ensures) (c .before .eqv-cells .ensures) (c .if1 .taken)
+returns c = walk-over (lists (c .before .before .before .before .before .before .before .before .before .before .before .args .words .now) (c .before .before .before .before .before .before .before .before .before .before .before .args .map .now) (c .before .before .before .before .before .before .before .before .before .before .before .args .bytes .now) (c .before .before .before .before .before .before .before .before .before .before .before .args .elems .now)) (c .before .before .before .before .before .before .before .before .before .before .before .args .c) (c .before .before .before .before .before .before .before .before .before .before .before .args .scratch .now) (c .before .before .before .before .before .before .before .before .before .before .before .args .top) (c .before .before .before .before .before .before .before .before .before .before .before .args .s) (c .before .before .before .before .before .before .before .before .before .before .before .args .t) (c .before .before .before .before .before .before .before .before .before .before .before .pre) (c .before .before .before .before .before .parts-of .result) (c .before .before .before .before .before .parts-of .ensures) (λ a d b e q. other-variant (λ (x : Parts). tagOf the-type x) 1 (2 ∷ []) _ (c .before .before .before .before .match .keys2) q refl) (cell-of (c .before .before .before .load .result)) (cell-of (c .before .before .load2 .result)) (c .before .eqv-cells .result) (c .before .before .before .load .ensures) (c .before .before .load2 .ensures) (c .before .eqv-cells .ensures) (c .if1 .taken)
 
 returns-2 : tie.Need-returns-2
-returns-2 c = walk-fails (lists (c .before .before .before .before .before .before .before .before .before .before .before .args .words .now) (c .before .before .before .before .before .before .before .before .before .before .before .args .map .now) (c .before .before .before .before .before .before .before .before .before .before .before .args .bytes .now) (c .before .before .before .before .before .before .before .before .before .before .before .args .elems .now)) (c .before .before .before .before .before .before .before .before .before .before .before .args .c) (c .before .before .before .before .before .before .before .before .before .before .before .args .scratch .now) (c .before .before .before .before .before .before .before .before .before .before .before .args .top) (c .before .before .before .before .before .before .before .before .before .before .before .args .s) (c .before .before .before .before .before .before .before .before .before .before .before .args .t) (c .before .before .before .before .before .before .before .before .before .before .before .pre) (c .before .before .before .before .before .parts-of .result) (c .before .before .before .before .before .parts-of .ensures) (λ a d b e q. pairs-first _ (c .before .before .before .before .match .keys2) (ap (λ (x : Parts). tagOf the-type x) q)) (cell-of (c .before .before .before .load .result)) (cell-of (c .before .before .load2 .result)) (c .before .eqv-cells .result) (c .before .before .before .load .ensures) (c .before .before .load2 .ensures) (c .before .eqv-cells .ensures) (c .if1 .left)
+returns-2 c = walk-fails (lists (c .before .before .before .before .before .before .before .before .before .before .before .args .words .now) (c .before .before .before .before .before .before .before .before .before .before .before .args .map .now) (c .before .before .before .before .before .before .before .before .before .before .before .args .bytes .now) (c .before .before .before .before .before .before .before .before .before .before .before .args .elems .now)) (c .before .before .before .before .before .before .before .before .before .before .before .args .c) (c .before .before .before .before .before .before .before .before .before .before .before .args .scratch .now) (c .before .before .before .before .before .before .before .before .before .before .before .args .top) (c .before .before .before .before .before .before .before .before .before .before .before .args .s) (c .before .before .before .before .before .before .before .before .before .before .before .args .t) (c .before .before .before .before .before .before .before .before .before .before .before .pre) (c .before .before .before .before .before .parts-of .result) (c .before .before .before .before .before .parts-of .ensures) (λ a d b e q. other-variant (λ (x : Parts). tagOf the-type x) 1 (2 ∷ []) _ (c .before .before .before .before .match .keys2) q refl) (cell-of (c .before .before .before .load .result)) (cell-of (c .before .before .load2 .result)) (c .before .eqv-cells .result) (c .before .before .before .load .ensures) (c .before .before .load2 .ensures) (c .before .eqv-cells .ensures) (c .if1 .left)
 
 join-walks-requires : tie.Need-join-walks-requires
 join-walks-requires c κs = can-join (lists (c .before .before .before .before .before .before .before .before .before .before .args .words .now) (c .before .before .before .before .before .before .before .before .before .before .args .map .now) (c .before .before .before .before .before .before .before .before .before .before .args .bytes .now) (c .before .before .before .before .before .before .before .before .before .before .args .elems .now)) (c .before .before .before .before .before .before .before .before .before .before .args .c) (c .before .before .before .before .before .before .before .before .before .before .args .scratch .now) (c .before .before .before .before .before .before .before .before .before .before .args .top) (c .before .before .before .before .before .before .before .before .before .before .args .s) (c .before .before .before .before .before .before .before .before .before .before .args .t) (c .before .before .before .before .before .before .before .before .before .before .pre)
