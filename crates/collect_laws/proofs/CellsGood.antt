@@ -10,6 +10,7 @@ use lib.ListN.{length, getD}
 use Rattle.laws.specs.Basics.{both, member}
 use Rattle.laws.proofs.Tests.{both-true}
 use Rattle.laws.proofs.Pointwise.{getD-part}
+use Rattle.laws.proofs.Members.{first-member, later-member}
 use Rattle.rules.specs.Numbers.{most-vector, most-string, most-name}
 use Rattle.rules.specs.Utf8.{utf8}
 use Rattle.rules.specs.Cells.{undefined, Value, slot, scalar, Cell}
@@ -19,7 +20,6 @@ use Rattle.rules.specs.Sound.{value-named, cell-allowed, text-block, vector-blo
 use Rattle.rules.specs.Calls.{cell-in-use, call-rules}
 use Rattle.rules.proofs.Good.{element-at, Cell-good}
 use Rattle.collect_laws.specs.Kept.{As-before, same-scalar, same-pair, symbol-moved, string-moved, vector-moved}
-use Rattle.collect_laws.proofs.Reach.{first-member, later-member}
 use Rattle.collect_laws.proofs.Leading.{element-among}
 
 module _ (h k : Heap) where

@@ -9,6 +9,7 @@ use native.Mathlib.Omega.{arith}
 use lib.ListN.{length}
 use Rattle.laws.specs.Basics.{every, member, count}
 use Rattle.laws.proofs.Pointwise.{every-at, all-every}
+use Rattle.laws.proofs.Members.{among}
 use Rattle.rules.specs.Map.{Free, state-of}
 use Rattle.rules.specs.Cells.{undefined, scalar, plain}
 use Rattle.rules.specs.Heap.{Heap, capacity, cell-at, in-use}
@@ -17,7 +18,7 @@ use Rattle.rules.specs.Sound.{value-allowed, text-block, vector-block, lies-in,
 use Rattle.rules.proofs.Growth.{Reached as Grown-to}
 use Rattle.rules.proofs.Good.{Cell-good, Good, apart, used-slot}
 use Rattle.rules.proofs.PutCells.{plain-fits}
-use Rattle.collect_laws.proofs.Reach.{among, marked-reached}
+use Rattle.collect_laws.proofs.Reach.{marked-reached}
 use Rattle.collect_laws.proofs.Leading.{is-marked, not-marked}
 use Rattle.collect_laws.proofs.PackedCells.{packed-texts, packed-vectors, packed-texts-in, packed-vectors-in, vectors-moved}
 use Rattle.collect_laws.proofs.SweptHeap.{swept-heap, swept-so, swept-listed, swept-blocks}

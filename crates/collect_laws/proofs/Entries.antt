@@ -3,15 +3,15 @@
 -- same slot". Assumes nothing.
 use mathlib.Core.Path.{_≡_, refl, sym, ap, _∙_, subst}
 use mathlib.Core.Bool.{Bool, true, false, not}
-use mathlib.Core.List.{List, [], _∷_}
-use Prim.Native.Nat.{ℕ, zero, suc, _<_}
+use mathlib.Core.List.{List, []}
+use Prim.Native.Nat.{ℕ, _<_}
 use native.Mathlib.Omega.{arith}
 use borrow.Author.Tests.{eqb-true, eq-eqb, ne-eqb}
 use lib.Dec.{eqb}
 use lib.ListN.{length, getD}
-use Rattle.laws.specs.Basics.{choose, both, every, member, keep, same, rising}
+use Rattle.laws.specs.Basics.{both, every, member, keep, same, rising}
 use Rattle.laws.proofs.Tests.{both-left, both-right, both-true}
-use Rattle.laws.proofs.Members.{keep-same}
+use Rattle.laws.proofs.Members.{keep-same, keep-each, keep-pairs}
 use Rattle.rules.specs.Map.{state-of, is-allocated, map-rules}
 use Rattle.rules.specs.Cells.{Cell, plain, pair, symbol, string, vector, is-symbol}
 use Rattle.rules.specs.Heap.{Heap, Entry, capacity, cell-at, in-use, text-of, name-at}
@@ -23,32 +23,6 @@ use Rattle.collect_laws.specs.Kept.{As-before, same-scalar, same-pair, s
 use Rattle.collect_laws.proofs.Sweeping.{sweeps}
 use Rattle.collect_laws.proofs.SweptHeap.{swept-heap, unmarked-free, marked-allocated}
 use Rattle.collect_laws.proofs.Collected.{marked-used, used-is, marked-as-before}
-
--- ---- those that a test keeps
-
-module _ {A : Type 0} (f : A → Bool) (d : A) where
-  keep-each : (P : A → Type 0) (l : List A) → ((i : ℕ) → i < length l → f (getD l i d) ≡ true → P (getD l i d)) → (i : ℕ) → i < length (keep f l) → P (getD (keep f l) i d)
-  unfolding keep
-  keep-each P [] p i l = absurd (omega arith)
-  keep-each P (x ∷ xs) p i l = by (keep-each P xs (λ i l e. p (suc i) (omega arith) e)) (f x) refl i l
-    where
-      by : ((i : ℕ) → i < length (keep f xs) → P (getD (keep f xs) i d)) → (b : Bool) → f x ≡ b → (i : ℕ) → i < length (choose b (x ∷ keep f xs) (keep f xs)) → P (getD (choose b (x ∷ keep f xs) (keep f xs)) i d)
-      by again true e zero l = p 0 (omega arith) e
-      by again true e (suc i) l = again i (omega arith)
-      by again false e i l = again i l
-
-  keep-pairs : (P : A → A → Type 0) (l : List A) → ((i j : ℕ) → i < j → j < length l → f (getD l i d) ≡ true → f (getD l j d) ≡ true → P (getD l i d) (getD l j d)) → (i j : ℕ) → i < j → j < length (keep f l) → P (getD (keep f l) i d) (getD (keep f l) j d)
-  unfolding keep
-  keep-pairs P [] p i j m l = absurd (omega arith)
-  keep-pairs P (x ∷ xs) p i j m l =
-      by (keep-pairs P xs (λ i j m l e g. p (suc i) (suc j) (omega arith) (omega arith) e g)) (f x) refl i j m l
-    where
-      by : ((i j : ℕ) → i < j → j < length (keep f xs) → P (getD (keep f xs) i d) (getD (keep f xs) j d)) → (b : Bool) → f x ≡ b → (i j : ℕ) → i < j → j < length (choose b (x ∷ keep f xs) (keep f xs)) → P (getD (choose b (x ∷ keep f xs) (keep f xs)) i d) (getD (choose b (x ∷ keep f xs) (keep f xs)) j d)
-      by again true e i zero m l = absurd (omega arith)
-      by again true e zero (suc j) m l =
-          keep-each (λ y. P x y) xs (λ i l g. p 0 (suc i) (omega arith) (omega arith) e g) j (omega arith)
-      by again true e (suc i) (suc j) m l = again i j (omega arith) (omega arith)
-      by again false e i j m l = again i j m l
 
 -- ---- the name of a cell as before
 

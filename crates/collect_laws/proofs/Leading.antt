@@ -11,6 +11,7 @@ use lib.ListN.{length, getD}
 use Rattle.laws.specs.Basics.{every, member, basics}
 use Rattle.laws.proofs.Tests.{true≢false, both-left, both-right}
 use Rattle.laws.proofs.Pointwise.{getD-part, length-part}
+use Rattle.laws.proofs.Members.{first-member, later-member, member-cases, every-member}
 use Rattle.rules.specs.Cells.{undefined, Value, slot, scalar, Cell, plain, pair, symbol, string, vector}
 use Rattle.rules.specs.Heap.{Heap, capacity, cell-at, in-use, elements-of}
 use Rattle.rules.specs.Collect.{slots-among, leads-to, Reached, marked}
@@ -18,7 +19,7 @@ use Rattle.rules.specs.Sound.{value-named, sound-rules}
 use Rattle.rules.specs.Calls.{call-rules}
 use Rattle.rules.proofs.Good.{Cell-good, Good, used-slot}
 use Rattle.rules.proofs.Keeping.{lies-below}
-use Rattle.collect_laws.proofs.Reach.{first-member, later-member, member-cases, every-member, marked-reached, marked-keeps, reached-marked}
+use Rattle.collect_laws.proofs.Reach.{marked-reached, marked-keeps, reached-marked}
 
 -- ---- slots among values
 

@@ -14,6 +14,7 @@ use Rattle.laws.specs.Basics.{either, every, count, find, join, rising, basics}
 use Rattle.laws.proofs.Tests.{both-left, both-right, both-true, every-append, join-append}
 use Rattle.laws.proofs.Lists.{count-rising, count-rising-in, length-rising, getD-rising}
 use Rattle.laws.proofs.Pointwise.{count-append, count-rising-past, all-every, length-part}
+use Rattle.laws.proofs.Variants.{positive}
 use Rattle.rules.specs.Cells.{Block, same-block}
 use Rattle.rules.specs.Heap.{part-of}
 use Rattle.rules.specs.Collect.{Moved, Packing, place-of, pack-block}
@@ -58,10 +59,6 @@ apart-by a b p q e = go (eqb (a .size) 0) (eqb (b .size) 0) (same-block a b) (le
     go false false false true y e1 e2 e3 e4 e5 t = before (leb-true _ _ e4)
     go false false false false true e1 e2 e3 e4 e5 t = after (leb-true _ _ e5)
     go false false false false false e1 e2 e3 e4 e5 t = absurd (true≢false (sym t))
-
-pub positive : (n : ℕ) → eqb n 0 ≡ false → 0 < n
-positive zero e = absurd (eqb-false 0 0 e refl)
-positive (suc n) e = omega arith
 
 -- ---- where a block went
 
@@ -251,9 +248,9 @@ module _ {A : Type 0} (old : List A) (shows : ℕ → Block) (apart-all : (s t :
     where
       by : (z : Bool) (o : Option ℕ) → eqb (shows s .size) 0 ≡ z → place-of (shows s) (p .moved) ≡ o → P (pack-block old (shows s) p)
       by true o e q = subst P (sym (empty-stays s p (eqb-true _ _ e))) stays
-      by false (some k) e q = subst P (sym (known-stays s p k (positive (shows s .size) e) q)) stays
+      by false (some k) e q = subst P (sym (known-stays s p k (positive (shows s .size) (eqb-false (shows s .size) 0 e)) q)) stays
       by false none e q =
-          subst P (sym (new-moves s p (positive (shows s .size) e) q)) (new (positive (shows s .size) e) q)
+          subst P (sym (new-moves s p (positive (shows s .size) (eqb-false (shows s .size) 0 e)) q)) (new (positive (shows s .size) (eqb-false (shows s .size) 0 e)) q)
 
   pub packed-by : (P : Packing A → Type 0) → P (record { room = []; moved = [] }) → ((s : ℕ) (p : Packing A) → P p → 0 < shows s .size → place-of (shows s) (p .moved) ≡ none → P (with-new s p)) → (s : ℕ) → P (packed s)
   unfolding packed

@@ -3,62 +3,21 @@
 -- and cdr, a vector to each element that is a slot." Assumes nothing.
 use mathlib.Core.Path.{_≡_, refl, sym, ap, _∙_, subst}
 use mathlib.Core.Bool.{Bool, true, false}
-use mathlib.Core.List.{List, [], _∷_, _++_, List·Memᴰ, List·Memᴰ·head, List·Memᴰ·tail, List·Memᴰ·cases-cons, List·Memᴰ·not-nil}
+use mathlib.Core.List.{List, [], _∷_, _++_}
 use mathlib.Core.Logic.{_⊎_, inl, inr, ⊎-elim}
 use Prim.Native.Nat.{ℕ, zero, suc, _+_, _≤_, _<_}
 use native.Mathlib.Omega.{arith}
 use native.Mathlib.Decide.{ℕ-discrete}
-use borrow.Author.Tests.{eqb-true, eq-eqb, lt-ltb}
-use lib.Dec.{eqb, ltb}
+use borrow.Author.Tests.{lt-ltb}
+use lib.Dec.{ltb}
 use lib.ListN.{length}
-use Rattle.laws.specs.Basics.{choose, either, every, join, member, count, basics}
-use Rattle.laws.proofs.Tests.{true≢false, both-left, both-right, both-true, either-cases, either-left, either-right}
-use Rattle.laws.proofs.Members.{member-append}
+use Rattle.laws.specs.Basics.{choose, join, member, count, basics}
+use Rattle.laws.proofs.Tests.{true≢false, either-cases, either-left, either-right}
+use Rattle.laws.proofs.Members.{member-append, among, is-member, first-member, later-member, member-cases, member-every, no-member}
 use Rattle.laws.proofs.Pointwise.{count-here, count-other}
 use Rattle.rules.specs.Heap.{Heap, capacity, cell-at}
 use Rattle.rules.specs.Collect.{leads-to, Reached, root, next, mark-all, mark-round, mark-rounds, marked}
 use Rattle.rules.proofs.Good.{each-once}
-
--- ---- members
-
-pub among : (s : ℕ) (l : List ℕ) → member s l ≡ true → List·Memᴰ s l
-unfolding basics
-among s [] e = absurd (true≢false (sym e))
-among s (x ∷ l) e =
-    ⊎-elim (λ p. List·Memᴰ·head (eqb-true s x p)) (λ p. List·Memᴰ·tail (among s l p)) (either-cases (eqb s x) _ e)
-
-pub is-member : (s : ℕ) (l : List ℕ) → List·Memᴰ s l → member s l ≡ true
-unfolding basics
-is-member s [] m = absurd (List·Memᴰ·not-nil m)
-is-member s (x ∷ l) m =
-    ⊎-elim (λ p. either-left (member s l) (eq-eqb s x p)) (λ p. either-right (eqb s x) (is-member s l p))
-    (List·Memᴰ·cases-cons m)
-
-pub first-member : (s : ℕ) (l : List ℕ) → member s (s ∷ l) ≡ true
-unfolding basics
-first-member s l = either-left (member s l) (eq-eqb s s refl)
-
-pub later-member : (s x : ℕ) (l : List ℕ) → member s l ≡ true → member s (x ∷ l) ≡ true
-unfolding basics
-later-member s x l e = either-right (eqb s x) e
-
-pub member-cases : (s x : ℕ) (l : List ℕ) → member s (x ∷ l) ≡ true → (s ≡ x) ⊎ (member s l ≡ true)
-unfolding basics
-member-cases s x l e = ⊎-elim (λ p. inl (eqb-true s x p)) (λ p. inr p) (either-cases (eqb s x) _ e)
-
-pub every-member : (f : ℕ → Bool) (l : List ℕ) → every f l ≡ true → (s : ℕ) → member s l ≡ true → f s ≡ true
-unfolding basics
-every-member f [] e s m = absurd (true≢false (sym m))
-every-member f (x ∷ l) e s m =
-    ⊎-elim (λ p. ap f p ∙ both-left (f x) _ e)
-    (λ p. every-member f l (both-right (f x) _ e) s p)
-    (member-cases s x l m)
-
-pub member-every : (f : ℕ → Bool) (l : List ℕ) → ((s : ℕ) → member s l ≡ true → f s ≡ true) → every f l ≡ true
-unfolding basics
-member-every f [] p = refl
-member-every f (x ∷ l) p =
-    both-true (p x (first-member x l)) (member-every f l (λ s m. p s (later-member s x l m)))
 
 -- a slot that one of the list leads to
 pub record From (f : ℕ → List ℕ) (l : List ℕ) (t : ℕ) : Type 0 where
@@ -127,15 +86,6 @@ marks-only (x ∷ ss) ms s e =
 -- each slot once
 Once : List ℕ → Type 0
 Once ms = (s : ℕ) → count s ms ≤ 1
-
-no-member : (s : ℕ) (ms : List ℕ) → member s ms ≡ false → count s ms ≡ 0
-unfolding basics
-no-member s [] e = refl
-no-member s (x ∷ ms) e = by (eqb s x) (λ p. no-member s ms p) e
-  where
-    by : (b : Bool) → (member s ms ≡ false → count s ms ≡ 0) → either b (member s ms) ≡ false → choose b 1 0 + count s ms ≡ 0
-    by true rest p = absurd (true≢false p)
-    by false rest p = omega (arith, rest p)
 
 once-more : (x : ℕ) (ms : List ℕ) (b : Bool) → member x ms ≡ b → Once ms → Once (choose b ms (x ∷ ms))
 unfolding Once

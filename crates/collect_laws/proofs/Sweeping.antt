@@ -14,12 +14,12 @@ use lib.Seq.{getD-set-same, getD-set-other}
 use Rattle.laws.specs.Basics.{both, member, count, basics}
 use Rattle.laws.proofs.Tests.{true≢false}
 use Rattle.laws.proofs.Pointwise.{count-here, count-other}
+use Rattle.laws.proofs.Members.{member-cases}
 use Rattle.rules.specs.Map.{Free, state-of, set-state, is-allocated, map-rules}
 use Rattle.rules.specs.Cells.{undefined, Cell, plain}
 use Rattle.rules.specs.Heap.{Heap, capacity, cell-at}
 use Rattle.rules.specs.Collect.{free-slot, sweep}
 use Rattle.rules.proofs.TwoBits.{state-past, set-state-length, state-same, state-other}
-use Rattle.collect_laws.proofs.Reach.{member-cases}
 
 -- ---- what stays
 

@@ -3,12 +3,13 @@
 -- on top of the list." Assumes nothing.
 use mathlib.Core.Path.{_≡_, ap, _∙_}
 use mathlib.Core.Bool.{true, false}
-use mathlib.Core.List.{List, _∷_}
-use Prim.Native.Nat.{ℕ, zero, suc, _+_, _≤_, _<_}
+use mathlib.Core.List.{List}
+use Prim.Native.Nat.{ℕ}
 use native.Mathlib.Omega.{arith}
-use native.Mathlib.Decide.{decLt, ℕ-discrete}
+use native.Mathlib.Decide.{decLt}
 use lib.ListN.{length}
-use Rattle.laws.specs.Basics.{every, member, rising, basics}
+use Rattle.laws.specs.Basics.{every, member, rising}
+use Rattle.laws.proofs.Members.{member-rising}
 use Rattle.rules.specs.Map.{Free, Allocated, state-of}
 use Rattle.rules.specs.Cells.{undefined, Block, block, Cell, plain}
 use Rattle.rules.specs.Heap.{Heap, capacity, cell-at, in-use}
@@ -17,19 +18,9 @@ use Rattle.rules.specs.Sound.{text-block, vector-block, lies-in}
 use Rattle.rules.proofs.Good.{Good, apart, used-slot, capacity-fours, free-past}
 use Rattle.rules.proofs.Keeping.{lies-below, apart-sym, apart-empty}
 use Rattle.rules.proofs.PutCells.{lies-none}
-use Rattle.collect_laws.proofs.Reach.{first-member, later-member}
 use Rattle.collect_laws.proofs.Leading.{marked-in-use}
 use Rattle.collect_laws.proofs.Sweeping.{Swept-cell, kept, wiped, sweeps, Listed, sweep-listed, sweep-frees}
 use Rattle.collect_laws.proofs.PackedCells.{Blocks-sound, no-text, no-vector}
-
-member-rising : (a n s : ℕ) → a ≤ s → s < a + n → member s (rising a n) ≡ true
-unfolding basics
-member-rising a zero s l h = absurd (omega arith)
-member-rising a (suc n) s l h =
-    elim (ℕ-discrete s a) [
-      | yes e ↦ ap (λ (x : ℕ). member x (a ∷ rising (suc a) n)) e ∙ first-member a (rising (suc a) n)
-      | no d ↦ later-member s a (rising (suc a) n) (member-rising (suc a) n s (omega arith) (omega arith))
-    ]
 
 pub good-listed : (h : Heap) → Good h → Listed h
 good-listed h g = record { states = omega (arith, g .map-size, capacity-fours h g); once = g .once; past = g .past; empty = g .empty }

@@ -2,7 +2,6 @@
 use mathlib.Core.Path.{_≡_, refl, sym, ap, _∙_}
 use mathlib.Core.Bool.{Bool, true, false}
 use mathlib.Core.List.{List, []}
-use mathlib.Core.Logic.{_⊎_, ⊎-elim}
 use mathlib.Core.Option.{none, some}
 use Prim.Native.Nat.{ℕ, _+_, _*_, _/_, _≤_, _<_}
 use native.Mathlib.Omega.{arith}
@@ -110,22 +109,6 @@ not-text (cell.Pair a d) y z = refl
 not-text (cell.Symbol p n) y z = absurd (y p n refl)
 not-text (cell.String p n) y z = absurd (z p n refl)
 not-text (cell.Vector p n) y z = refl
-
--- the variants of a cell that are neither have other numbers
-pub other-variant : (x : ℕ) → (x ≡ 0) ⊎ ((x ≡ 1) ⊎ ((x ≡ 2) ⊎ ((x ≡ 3) ⊎ ((x ≡ 4) ⊎ ((x ≡ 5) ⊎ ((x ≡ 6) ⊎ ((x ≡ 7) ⊎ (x ≡ 10)))))))) → (n : ℕ) → 8 ≤ n → n ≤ 9 → x ≡ n → ⊥
-other-variant x o n low high is =
-    let off : (k : ℕ) → k < 8 → x ≡ k → ⊥ = λ k small e. omega arith in
-    ⊎-elim (off 0 (omega arith))
-    (⊎-elim (off 1 (omega arith))
-    (⊎-elim (off 2 (omega arith))
-    (⊎-elim (off 3 (omega arith))
-    (⊎-elim (off 4 (omega arith))
-    (⊎-elim (off 5 (omega arith)) (⊎-elim (off 6 (omega arith)) (⊎-elim (off 7 (omega arith)) (λ e. omega arith))))))))
-    o
-
--- and so have the refusals of a block
-pub refusal-variant : (x : ℕ) → (x ≡ 1) ⊎ ((x ≡ 2) ⊎ (x ≡ 3)) → x ≡ 0 → ⊥
-refusal-variant x o is = ⊎-elim (λ e. omega arith) (⊎-elim (λ e. omega arith) (λ e. omega arith)) o
 
 module _ (l : Lent) (s : ℕ) where
   abbrev h : Heap

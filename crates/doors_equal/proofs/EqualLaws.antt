@@ -2,7 +2,7 @@
 use mathlib.Core.Path.{_≡_, refl, sym, ap, _∙_, subst}
 use mathlib.Core.Bool.{Bool, true, false, not}
 use mathlib.Core.List.{List, [], _∷_}
-use Prim.Native.Nat.{ℕ, _+_, _*_, _≤_}
+use Prim.Native.Nat.{ℕ}
 use native.Mathlib.Omega.{arith}
 use borrow.Author.Tests.{ltb-false}
 use lib.Dec.{ltb}
@@ -18,7 +18,8 @@ use Rattle.rules.specs.Equal.{Equal}
 use Rattle.rules.specs.Calls.{Equal-left, cleared, given-value, of-answer, value-in-use, Equal-values, Equal-call}
 use Rattle.heap_sound_rows.proofs.HeapFacts.{cells-length}
 use Rattle.heap_sound_cells.specs.Looked.{named}
-use Rattle.heap_given.proofs.GivenLaws.{value-used}
+use Rattle.heap_given.proofs.GivenLaws.{value-used, both-used}
+use Rattle.heap_given.proofs.HeaderLaws.{short-by-header}
 use Rattle.heap_eqv.specs.Eqv.{Comparable}
 use Rattle.heap_equal.specs.Boards.{Room, Answered}
 use Rattle.doors_equal.specs.Behind.{Equal-second}
@@ -49,18 +50,15 @@ module _ (l : Lent) (scratch : List ℕ) (kind a kind′ a′ : ℕ) where
   equal-unsound e = by-tests false short _ e refl refl
 
   module _ (ok : sound l ≡ true) where
-    short-by-header : (b : Bool) → ltb (length scratch) (scratch-words (getD (l .words) 1 0)) ≡ b → short ≡ b
-    short-by-header b e = ap (λ (n : ℕ). ltb (length scratch) (scratch-words n)) (cells-length l) ∙ e
-
     -- 19
     pub equal-short : ltb (length scratch) (scratch-words (getD (l .words) 1 0)) ≡ true → Equal-call l scratch kind a kind′ a′ (stopped short-scratch scratch)
     unfolding refusals
-    equal-short e = by-tests true true _ ok (short-by-header true e) refl
+    equal-short e = by-tests true true _ ok (short-by-header l scratch true e) refl
 
     module _ (long : ltb (length scratch) (scratch-words (getD (l .words) 1 0)) ≡ false) where
       passed : (x : Answer Value) (r : Equal-left) → x ≡ given-value kind a → given x r → Equal-call l scratch kind a kind′ a′ r
       unfolding refusals
-      passed x r e y = by-tests true false r ok (short-by-header false long) (subst (λ (z : Answer Value). given z r) e y)
+      passed x r e y = by-tests true false r ok (short-by-header l scratch false long) (subst (λ (z : Answer Value). given z r) e y)
 
       -- 11
       pub first-malformed : (r : Refusal) → refused r ≡ given-value kind a → (after : List ℕ) → after ≡ zeros (length scratch) → Equal-call l scratch kind a kind′ a′ (stopped r after)
@@ -100,17 +98,14 @@ module _ (l : Lent) (ok : sound l ≡ true) (scratch : List ℕ) (v w : Value) w
   unfolding Equal-values
   used-by t r e x = subst (λ (b : Bool). compared-by b r) (sym e) x
 
-  both-by : (t : Bool) → named (getD (l .words) 1 0) (l .map) v ≡ t → both (value-in-use (heap-of l) v) (value-in-use (heap-of l) w) ≡ both t (named (getD (l .words) 1 0) (l .map) w)
-  both-by t e = sym ((λ j. both (sym e j) (value-used l ok w j)) ∙ ap (λ (b : Bool). both b (value-in-use (heap-of l) w)) (value-used l ok v))
-
   pub first-free : named (getD (l .words) 1 0) (l .map) v ≡ false → (after : List ℕ) → after ≡ zeros (length scratch) → Equal-values (heap-of l) scratch v w (stopped no-such-slot after)
   unfolding refusals cleared
-  first-free n after c = used-by false _ (both-by false n) (ap (stopped no-such-slot) c)
+  first-free n after c = used-by false _ (both-used l ok v w false n) (ap (stopped no-such-slot) c)
 
   module _ (used : named (getD (l .words) 1 0) (l .map) v ≡ true) where
     pub second-free : named (getD (l .words) 1 0) (l .map) w ≡ false → (after : List ℕ) → after ≡ zeros (length scratch) → Equal-values (heap-of l) scratch v w (stopped no-such-slot after)
     unfolding refusals cleared
-    second-free n after c = used-by false _ (both-by true used ∙ n) (ap (stopped no-such-slot) c)
+    second-free n after c = used-by false _ (both-used l ok v w true used ∙ n) (ap (stopped no-such-slot) c)
 
     module _ (also : named (getD (l .words) 1 0) (l .map) w ≡ true) where
       pub comparable : Comparable l v w
@@ -120,7 +115,7 @@ module _ (l : Lent) (ok : sound l ≡ true) (scratch : List ℕ) (v w : Value) w
       pub compared : (r : Bool) (after : List ℕ) → Answered (heap-of l) scratch v w after r → Equal-values (heap-of l) scratch v w (record { answer = accepted r; scratch = after })
       unfolding refusals
       compared r after x =
-          used-by true _ (both-by true used ∙ also)
+          used-by true _ (both-used l ok v w true used ∙ also)
           (r, x .answer, ap (λ (y : List ℕ). record { answer = accepted r; scratch = y }) (x .scratch-is))
 
 -- scratch that is not too short has the formula's length

@@ -12,7 +12,7 @@ use Rattle.rules.specs.Sound.{sound}
 use Rattle.rules.specs.Equal.{eqv}
 use Rattle.rules.specs.Calls.{given-value, of-answer, value-in-use, eqv-call}
 use Rattle.heap_sound_cells.specs.Looked.{named}
-use Rattle.heap_given.proofs.GivenLaws.{value-used}
+use Rattle.heap_given.proofs.GivenLaws.{value-used, both-used}
 use Rattle.heap_eqv.specs.Eqv.{Comparable}
 use Rattle.doors_equal.specs.Behind.{eqv-behind, second-behind}
 
@@ -62,21 +62,18 @@ module _ (l : Lent) (ok : sound l ≡ true) (v w : Value) where
   tested t e =
       ap (λ (t : Bool). unless ((not t ⇒ no-such-slot) ∷ []) (accepted (eqv (heap-of l) v w)) (λ r. refused r)) (sym e)
 
-  both-by : (t : Bool) → named (getD (l .words) 1 0) (l .map) v ≡ t → both (value-in-use (heap-of l) v) (value-in-use (heap-of l) w) ≡ both t (named (getD (l .words) 1 0) (l .map) w)
-  both-by t e = sym ((λ j. both (sym e j) (value-used l ok w j)) ∙ ap (λ (b : Bool). both b (value-in-use (heap-of l) w)) (value-used l ok v))
-
   pub first-free : named (getD (l .words) 1 0) (l .map) v ≡ false → refused no-such-slot ≡ eqv-behind l v w
   unfolding refusals
-  first-free n = tested false (both-by false n)
+  first-free n = tested false (both-used l ok v w false n)
 
   module _ (used : named (getD (l .words) 1 0) (l .map) v ≡ true) where
     pub second-free : named (getD (l .words) 1 0) (l .map) w ≡ false → refused no-such-slot ≡ eqv-behind l v w
     unfolding refusals
-    second-free n = tested false (both-by true used ∙ n)
+    second-free n = tested false (both-used l ok v w true used ∙ n)
 
     pub comparable : named (getD (l .words) 1 0) (l .map) w ≡ true → Comparable l v w
     comparable n = record { lists-sound = ok; first = sym (value-used l ok v) ∙ used; second = sym (value-used l ok w) ∙ n }
 
     pub compared : named (getD (l .words) 1 0) (l .map) w ≡ true → (r : Bool) → r ≡ eqv (heap-of l) v w → accepted r ≡ eqv-behind l v w
     unfolding refusals
-    compared n r e = ap accepted e ∙ tested true (both-by true used ∙ n)
+    compared n r e = ap accepted e ∙ tested true (both-used l ok v w true used ∙ n)

@@ -2,7 +2,7 @@
 use mathlib.Core.Path.{_≡_, sym, ap, _∙_}
 use mathlib.Core.Bool.{Bool, true, false}
 use mathlib.Core.List.{List}
-use Prim.Native.Nat.{ℕ, _+_, _*_, _≤_}
+use Prim.Native.Nat.{ℕ}
 use native.Mathlib.Omega.{arith}
 use borrow.Author.Tests.{ltb-false}
 use lib.Dec.{ltb}
@@ -11,13 +11,13 @@ use Rattle.laws.specs.Basics.{zeros}
 use Rattle.rules.specs.Numbers.{scratch-words}
 use Rattle.rules.specs.Refusals.{Answer, accepted, refused, Refusal, unsound, short-scratch, no-such-slot, refusals}
 use Rattle.rules.specs.Cells.{Value}
-use Rattle.rules.specs.Heap.{capacity}
 use Rattle.rules.specs.Layout.{Lent, rooms-of, heap-of}
 use Rattle.rules.specs.Sound.{sound}
 use Rattle.rules.specs.Calls.{Read-left, cleared, given-value, of-answer, value-in-use, read-value, read-call}
 use Rattle.heap_sound_rows.proofs.HeapFacts.{cells-length}
 use Rattle.heap_sound_cells.specs.Looked.{named}
 use Rattle.heap_given.proofs.GivenLaws.{value-used}
+use Rattle.heap_given.proofs.HeaderLaws.{short-by-header}
 use Rattle.heap_read.specs.Whole.{Held}
 use Rattle.heap_read.proofs.ReadLaws.{sound-held}
 
@@ -35,18 +35,15 @@ module _ (l : Lent) (scratch out : List ℕ) (kind a : ℕ) where
   read-unsound e = rw e
 
   module _ (ok : sound l ≡ true) where
-    short-by-header : (b : Bool) → ltb (length scratch) (scratch-words (getD (l .words) 1 0)) ≡ b → ltb (length scratch) (scratch-words (capacity (heap-of l))) ≡ b
-    short-by-header b e = ap (λ (n : ℕ). ltb (length scratch) (scratch-words n)) (cells-length l) ∙ e
-
     -- 19
     pub read-short : ltb (length scratch) (scratch-words (getD (l .words) 1 0)) ≡ true → stopped short-scratch scratch out ≡ read-call l scratch out kind a
     unfolding read-call refusals
-    read-short e = rw (ok, short-by-header true e)
+    read-short e = rw (ok, short-by-header l scratch true e)
 
     module _ (long : ltb (length scratch) (scratch-words (getD (l .words) 1 0)) ≡ false) where
       passed : given (given-value kind a) ≡ read-call l scratch out kind a
       unfolding read-call refusals
-      passed = rw (ok, short-by-header false long)
+      passed = rw (ok, short-by-header l scratch false long)
 
       -- 11
       pub read-malformed : (r : Refusal) → refused r ≡ given-value kind a → (after : List ℕ) → after ≡ zeros (length scratch) → stopped r after out ≡ read-call l scratch out kind a

@@ -1,33 +1,34 @@
 -- A leaf of the tree: what was read is the leaf that stands there, and its put is the rules'. Assumes nothing.
 use mathlib.Core.Path.{_≡_, refl, sym, ap, _∙_, subst}
-use mathlib.Core.Bool.{Bool, true, false}
-use mathlib.Core.List.{List, [], _∷_, _++_, append-assoc, append-nil}
-use Prim.Native.Nat.{ℕ, zero, suc, _+_, _-_, _*_, _≤_, _<_}
+use mathlib.Core.Bool.{true}
+use mathlib.Core.List.{List, [], _∷_, _++_}
+use Prim.Native.Nat.{ℕ, zero, suc, _-_, _≤_, _<_}
 use native.Mathlib.Omega.{arith}
 use lib.ListN.{length, take, drop, length-append}
-use Rattle.rules.specs.Nodes.{Atom, Reading, reads, faulty, read-node, write-node, node-fits}
+use Rattle.rules.specs.Nodes.{Atom, reads, read-node, write-node, node-fits}
 use Rattle.rules.specs.Nodes as rules
-use Rattle.rules.specs.Cells.{slot, scalar, string, symbol}
-use Rattle.rules.specs.Heap.{Heap, Entry, capacity, used-count, found, with-bytes, block-after, heap-rules}
+use Rattle.rules.specs.Cells.{slot, string, symbol}
+use Rattle.rules.specs.Heap.{Heap, Entry, capacity, used-count, found, with-bytes, block-after}
 use Rattle.rules.specs.Layout.{Rooms, words-of, map-bytes, filled, entry-at}
-use Rattle.rules.specs.Put.{Making, Put, making, new-cell, put-string, make-symbol, put-symbol, put-atom, slot-of, put-rules}
+use Rattle.rules.specs.Put.{Making, Put, making, put-string, make-symbol, put-symbol, put-atom, slot-of, put-rules}
 use Rattle.rules.proofs.Nodes.{read-written}
 use Rattle.leaf_cells.specs.Elements.{value-of}
 use Rattle.leaf_cells.specs.declared.Value.{Value}
 use Rattle.leaf_cells.specs.declared.Value.the-variants as value
 use Rattle.leaf_symbols.proofs.TableLaws.{TableFits}
 use Rattle.heap_labels.specs.Labels.{labels-in}
-use Rattle.heap_steps.specs.Steps.{Open, TextOpen, Left, StringPut, SymbolOpen, SymbolReady, SymbolPut}
-use Rattle.leaf_nodes.specs.Reads.{Shows, ReadAs, shown, scalar-of, is-scalar, in-order, text-of, text-length, as-read, reads-rules}
+use Rattle.heap_steps.specs.Steps.{Open, TextOpen, StringPut, SymbolOpen, SymbolReady, SymbolPut}
+use Rattle.leaf_nodes.specs.Reads.{ReadAs, shown, scalar-of, in-order, text-of, text-length, reads-rules}
 use Rattle.leaf_nodes.specs.declared.Node.the-variants as node
 use Rattle.leaf_nodes.specs.declared.Node.{Node}
 use Rattle.leaf_nodes.specs.declared.Read.{Read}
-use Rattle.heap_atoms.specs.Makings.{Head, head-of, Able, Within}
+use Rattle.leaf_nodes.proofs.Laws.{plain-value}
+use Rattle.heap_atoms.specs.Makings.{head-of, Within}
 use Rattle.heap_atoms.specs.declared.Put as code
 use Rattle.heap_atoms.specs.Tasks.{AtomTask, AtomDone}
 use Rattle.heap_atoms.proofs.Keeping.{some-available, able-sized, able-most, new-cell-used, able-bytes}
 use mathlib.Core.Option.{Option, none, some}
-use lib.ListN.{length-drop, length-take, getD}
+use lib.ListN.{length-drop, getD}
 use lib.Dec.{ltb}
 use borrow.Author.Tests.{ltb-true}
 use Rattle.laws.specs.Basics.{every, basics}
@@ -117,17 +118,6 @@ module _ (r : Rooms) (f : ℕ) (m : Making) (a : Atom) (rest : List ℕ) (count 
   plain-leaf : (v : Value) → rd .node ≡ node.Plain v → a ≡ Atom.plain (scalar-of v)
   plain-leaf v e = let p = leaf (node.Plain v) e in cc
 
-  -- a scalar by value is that scalar
-  scalar-value : (v : Value) → is-scalar v ≡ true → value-of v ≡ scalar (scalar-of v)
-  scalar-value (value.Slot s) e = absurd (Rattle.laws.proofs.Tests.true≢false (sym e))
-  scalar-value value.Undefined e = refl
-  scalar-value value.Nil e = refl
-  scalar-value value.Eof e = refl
-  scalar-value value.Void e = refl
-  scalar-value (value.Bool b) e = refl
-  scalar-value (value.Char n) e = refl
-  scalar-value (value.Number n) e = refl
-
   pub inside-text : (n : Node) → rd .node ≡ n → text-length n ≤ rd .size
   inside-text n e = subst (λ (x : Node). text-length x ≤ rd .size) e (q .shows .texts)
 
@@ -165,7 +155,7 @@ module _ (r : Rooms) (f : ℕ) (m : Making) (a : Atom) (rest : List ℕ) (count 
   unfolding put-rules
   plain-done v e =
       stays (Atom.plain (scalar-of v)) (plain-leaf v e) v
-      (scalar-value v (subst (λ (n : Node). in-order n (rd .size) ≡ true) e (q .shows .order))) refl
+      (plain-value v (subst (λ (n : Node). in-order n (rd .size) ≡ true) e (q .shows .order))) refl
 
   pub ref-done : (l s : ℕ) → rd .node ≡ node.Ref l → s ≡ slot-of l (labels-in labels count) → AtomDone r m a count (value.Slot s) (rd .size) count words map bytes
   unfolding put-rules

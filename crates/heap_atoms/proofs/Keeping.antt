@@ -3,24 +3,26 @@ use mathlib.Core.Path.{_≡_, refl, sym, ap, _∙_, subst}
 use mathlib.Core.Bool.{Bool, true, false}
 use mathlib.Core.List.{List, [], _∷_, _++_}
 use mathlib.Core.Option.{Option, none, some}
-use Prim.Native.Nat.{ℕ, zero, suc, _+_, _-_, _*_, _/_, _≤_, _<_}
+use Prim.Native.Nat.{ℕ, suc, _/_, _≤_, _<_}
 use native.Mathlib.Omega.{arith}
 use borrow.Author.Tests.{ltb-true, lt-ltb}
 use lib.Dec.{eqb, ltb}
 use lib.ListN.{length, set, replicate, length-append, length-set}
-use Rattle.laws.specs.Basics.{choose, both, every, find, basics}
+use Rattle.laws.specs.Basics.{choose, every, find, basics}
 use Rattle.laws.proofs.Tests.{both-left, both-right, both-true, every-append}
+use Rattle.laws.proofs.Pointwise.{every-weaker}
+use Rattle.laws.proofs.Options.{none-some, some-value}
 use Rattle.rules.specs.Cells.{Value, slot, scalar, Cell, plain, undefined, pair, symbol, string, vector}
 use Rattle.rules.specs.Nodes.{Atom}
 use Rattle.rules.specs.Datum.{Datum, Data, atom, end, more, how-many}
-use Rattle.rules.specs.Heap.{Heap, Entry, Given, capacity, used-count, free-count, alloc, found, fitting, most-growths, with-cell, with-element, with-bytes, with-elements, with-entry, block-after, heap-rules}
+use Rattle.rules.specs.Heap.{Heap, Entry, capacity, used-count, alloc, found, fitting, most-growths, with-cell, with-bytes, with-entry, block-after, heap-rules}
 use Rattle.rules.specs.Layout.{Rooms}
 use Rattle.rules.specs.Put.{Label, Making, Put, making, put-as, new-cell, in-slot, slot-in, put-string, make-symbol, put-symbol, with-label, slot-of, begin-label, labelled, end-label, with-block, store-at, put-atom, put, put-all, put-rules}
 use Rattle.rules.proofs.Growth.{Whole, fitting-least, fitting-most}
-use Rattle.leaf_free.proofs.Allocating.{Growing, Room, available, room, alloc-growing, alloc-used, alloc-available}
+use Rattle.leaf_free.proofs.Allocating.{Room, available, room, alloc-growing, alloc-used, alloc-available}
 use Rattle.leaf_free.proofs.TakenSlot.{TakenFrom, alloc-taken}
 use Rattle.heap_steps.proofs.CellSteps.{sized-of}
-use Rattle.heap_steps.proofs.Sizes.{Sized, Larger, larger-on, larger-same, new-cell-larger, larger-bytes, larger-block, larger-entry, larger-element, in-slot-larger, put-string-larger, make-symbol-larger, put-symbol-larger, labelled-larger, end-label-larger, put-larger, put-all-larger}
+use Rattle.heap_steps.proofs.Sizes.{Sized, Larger, larger-on, new-cell-larger, larger-block, larger-element, in-slot-larger, labelled-larger, end-label-larger, put-larger, put-all-larger}
 use Rattle.heap_atoms.specs.Makings.{Able, Within}
 
 -- ---- within at the end, within before
@@ -35,11 +37,6 @@ within-before l w =
     }
 
 -- ---- tests that go on holding
-
-every-weaker : {A : Type 0} (f g : A → Bool) → ((a : A) → f a ≡ true → g a ≡ true) → (l : List A) → every f l ≡ true → every g l ≡ true
-unfolding basics
-every-weaker f g h [] e = refl
-every-weaker f g h (x ∷ l) e = both-true (h x (both-left (f x) _ e)) (every-weaker f g h l (both-right (f x) _ e))
 
 below-more : (a b s : ℕ) → a ≤ b → ltb s a ≡ true → ltb s b ≡ true
 below-more a b s h e = lt-ltb s b (omega (arith, ltb-true s a e))
@@ -276,16 +273,10 @@ module _ (r : Rooms) (f : ℕ) where
   found-below : (g : Entry → Bool) (cap : ℕ) (es : List Entry) (e : Entry) → every (λ (e : Entry). ltb (e .slot) cap) es ≡ true → find g es ≡ some e → e .slot < cap
   unfolding basics
   found-below g cap [] e h q = absurd (none-some q)
-    where
-      none-some : {A : Type 0} {a : A} → none ≡ some a → ⊥
-      none-some e = let z : _≡_ {A = ℕ} 0 1 = cc in omega arith
   found-below g cap (x ∷ es) e h q = go (g x) (λ p. found-below g cap es e (both-right (ltb (x .slot) cap) _ h) p) q
     where
-      some-same : {A : Type 0} {a b : A} → some a ≡ some b → a ≡ b
-      some-same e = cc
-
       go : (b : Bool) → (find g es ≡ some e → e .slot < cap) → elim b as (λ b. Option Entry) [ true ↦ some x | false ↦ find g es ] ≡ some e → e .slot < cap
-      go true k q = subst (λ (y : Entry). y .slot < cap) (some-same q) (ltb-true (x .slot) cap (both-left (ltb (x .slot) cap) _ h))
+      go true k q = subst (λ (y : Entry). y .slot < cap) (some-value q) (ltb-true (x .slot) cap (both-left (ltb (x .slot) cap) _ h))
       go false k q = k q
 
   pub put-symbol-kept : (t : List ℕ) (n : ℕ) (m : Making) → Able r f m → Within r f (put-symbol t n m .making) → Kept r f (put-symbol t n m)

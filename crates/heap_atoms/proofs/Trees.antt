@@ -1,15 +1,14 @@
 -- The tree at the start of a datum, by the node that was read there. Assumes nothing.
-use mathlib.Core.Path.{_≡_, refl, sym, ap, _∙_, subst}
-use mathlib.Core.Bool.{Bool, true, false}
-use mathlib.Core.List.{List, [], _∷_, _++_, append-assoc, append-nil}
-use Prim.Native.Nat.{ℕ, zero, suc, _+_, _*_, _≤_, _<_}
-use native.Mathlib.Omega.{arith}
-use lib.ListN.{length, take, drop, length-append}
-use lib.Seq.{drop-at}
-use Rattle.laws.specs.Basics.{both, every, join, basics}
-use Rattle.laws.proofs.Tests.{both-left, both-right, both-true, every-front, every-back, join-append}
-use Rattle.rules.specs.Nodes.{Atom, Node, Reading, reads, faulty, read-node, write-node, node-fits}
-use Rattle.rules.specs.Datum.{Datum, Data, atom, pair, vector, def, end, more, how-many, nodes, all-nodes, encode, datum-fits, datum-rules}
+use mathlib.Core.Path.{_≡_, refl, sym, ap, _∙_}
+use mathlib.Core.Bool.{true}
+use mathlib.Core.List.{List, [], _∷_, _++_, append-assoc}
+use Prim.Native.Nat.{ℕ, _+_}
+use lib.ListN.{length, length-append}
+use Rattle.laws.specs.Basics.{every, join, basics}
+use Rattle.laws.proofs.Tests.{both-left, both-right}
+use Rattle.laws.proofs.Variants.{clash}
+use Rattle.rules.specs.Nodes.{Atom, Node, reads, read-node, write-node, node-fits}
+use Rattle.rules.specs.Datum.{Datum, Data, atom, pair, vector, def, how-many, nodes, all-nodes, encode, datum-fits, datum-rules}
 use Rattle.rules.proofs.Nodes.{read-written}
 
 -- the first node of a tree, and the nodes after it
@@ -74,9 +73,6 @@ pub record IsVector (t : Datum) (n : ℕ) : Type 0 where
 pub record IsLabel (t : Datum) (l : ℕ) : Type 0 where
   pub inner : Datum
   pub is : t ≡ def l inner
-
-clash : {A : Type 0} → _≡_ {A = ℕ} 0 1 → A
-clash z = absurd (omega arith)
 
 pub is-atom : (t : Datum) (a : Atom) → first t ≡ Node.atom a → t ≡ atom a
 unfolding first

@@ -14,6 +14,7 @@ use lib.Seq.{sets, getD-set-same, getD-set-other}
 use Rattle.laws.specs.Basics.{choose, member}
 use Rattle.laws.proofs.Tests.{true≢false}
 use Rattle.laws.proofs.Writing.{sets-append}
+use Rattle.laws.proofs.Members.{member-other, first-member}
 use Rattle.rules.specs.Cells.{Scalar, Value, slot, scalar, Cell, plain, pair, symbol, string, vector}
 use Rattle.rules.specs.Nodes.{Atom, Node, write-node}
 use Rattle.rules.specs.Heap.{Heap, cell-at}
@@ -22,7 +23,7 @@ use Rattle.leaf_cells.specs.Words.{stored}
 use Rattle.leaf_write.specs.declared.Page.{Page}
 use Rattle.leaf_write.specs.Pages.{noted, Noted}
 use Rattle.heap_walk.specs.Marks.{label-word}
-use Rattle.heap_walk.proofs.MarkLaws.{label-none, label-some, member-other, member-self}
+use Rattle.heap_walk.proofs.MarkLaws.{label-none, label-some}
 use Rattle.heap_build.specs.Drafts.{Draft, note, and-next, begin, draft-cell, draft-label, draft-slot, draft, draft-rules}
 use Rattle.heap_build.specs.Tasks.{Marks, Shows, Made, Left-by}
 
@@ -226,7 +227,7 @@ module _ (labels begun marks : List ℕ) (m : Marks labels begun marks) (s : ℕ
             elim (ℕ-discrete x s) [
               | yes e ↦
                   ap (λ (y : ℕ). eqb (getD (set marks s v) y 0 % 4) 2) e ∙ ap (λ (y : ℕ). eqb (y % 4) 2) here
-                  ∙ eq-eqb (v % 4) 2 (omega arith) ∙ sym (ap (λ (y : ℕ). member y (s ∷ begun)) e ∙ member-self s begun)
+                  ∙ eq-eqb (v % 4) 2 (omega arith) ∙ sym (ap (λ (y : ℕ). member y (s ∷ begun)) e ∙ first-member s begun)
               | no d ↦
                   ap (λ (y : ℕ). eqb (y % 4) 2) (getD-set-other marks s x v 0 d) ∙ m .begun-are x ∙ sym (member-other x s begun d)
             ];

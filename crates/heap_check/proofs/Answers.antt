@@ -4,8 +4,8 @@ use mathlib.Core.Bool.{Bool, true, false}
 use mathlib.Core.List.{List}
 use mathlib.Core.Option.{Option, none, some}
 use Prim.Native.Nat.{ℕ}
-use native.Mathlib.Omega.{arith}
 use Rattle.laws.proofs.Bytes.{all-bytes}
+use Rattle.laws.proofs.Options.{none-some}
 use Rattle.rules.specs.Refusals.{Refusal, malformed}
 use Rattle.rules.specs.Datum.{Datum, encode, Parse, good, bad, parse, datum-fits, within-limits, early-reference}
 use Rattle.rules.proofs.Datum.{encode-parse, parse-fits}
@@ -22,14 +22,11 @@ pub record Accepted (bs : List ℕ) : Type 0 where
   pub within : within-limits tree ≡ true
   pub labels : early-reference tree ≡ false
 
-some-none : {x : Refusal} → some x ≡ none → ⊥
-some-none e = let z : _≡_ {A = ℕ} 0 1 = cc in omega arith
-
 passes : (w e : Bool) → limits w e ≡ none → (w ≡ true) × (e ≡ false)
 unfolding limits
-passes true true h = absurd (some-none h)
+passes true true h = absurd (none-some (sym h))
 passes true false h = (refl, refl)
-passes false e h = absurd (some-none h)
+passes false e h = absurd (none-some (sym h))
 
 pub accepted : (bs : List ℕ) (r : Checked) → all-bytes bs ≡ true → checked-of r ≡ verdict bs → r ≡ Good → Accepted bs
 unfolding verdict
@@ -46,4 +43,4 @@ accepted bs r h is e = go (parse bs) refl (sym is ∙ ap checked-of e)
           within = both .0;
           labels = both .1;
         }
-    go (bad f n) q z = absurd (some-none z)
+    go (bad f n) q z = absurd (none-some (sym z))

@@ -1,11 +1,10 @@
 -- The pass over the bytes: what was to do is what is left to do. Assumes nothing.
 use mathlib.Core.Path.{_≡_, refl, sym, ap, _∙_, subst}
-use mathlib.Core.Bool.{Bool, true, false, not}
+use mathlib.Core.Bool.{Bool, true, false}
 use mathlib.Core.List.{List, [], _∷_, _++_}
 use mathlib.Core.Option.{Option, some}
 use Prim.Native.Nat.{ℕ, zero, suc, _+_, _-_, _*_, _≤_, _<_}
 use native.Mathlib.Omega.{arith}
-use mathlib.Core.Logic.{_⊎_, ⊎-elim}
 use borrow.Author.Tests.{ltb-true}
 use lib.Dec.{ltb}
 use lib.ListN.{length, getD, take, drop, length-drop}
@@ -18,10 +17,9 @@ use Rattle.rules.specs.Datum.{Datum, nodes, Parsed, parsed, fault, then, datum-
 use Rattle.rules.proofs.Flat.{follow, flat, enough, one-pass, shorter, still-bytes}
 use Rattle.leaf_nodes.specs.declared.Fault.{Fault}
 use Rattle.leaf_nodes.specs.declared.Fault.the-variants.{LeftOver}
-use Rattle.leaf_nodes.specs.declared.Node as leaf
 use Rattle.leaf_nodes.specs.declared.Node.the-variants as leaf-node
 use Rattle.leaf_nodes.specs.declared.Read.{Read}
-use Rattle.leaf_nodes.specs.Reads.{fault-of, shown, text-of, as-read, ReadAs, reads-rules}
+use Rattle.leaf_nodes.specs.Reads.{fault-of, text-of, as-read, ReadAs, reads-rules}
 use Rattle.leaf_nodes.proofs.Laws.{Node-at, node-at, as-shown, text-long, good-node, all-small}
 use Rattle.heap_check.specs.declared.Tally as code
 use Rattle.heap_check.specs.declared.Checked.{Checked}
@@ -243,9 +241,3 @@ module _ (bs : List ℕ) (at wanted : ℕ) (t : code.Tally) (g : Going bs t at w
 
   pub turn-judged : (r : Checked) → length bs ≤ at → checked-of r ≡ judged (tally-of t) → checked-of r ≡ verdict bs
   turn-judged r h e = e ∙ sym (at-end ∙ ends-well (tally-of t) (drop at bs) (omega (arith, length-drop at bs)))
-
--- a tag from 1 on is not the first
-pub later-tag : (x : ℕ) → (x ≡ 1) ⊎ ((x ≡ 2) ⊎ ((x ≡ 3) ⊎ ((x ≡ 4) ⊎ ((x ≡ 5) ⊎ ((x ≡ 6) ⊎ ((x ≡ 7) ⊎ (x ≡ 8))))))) → x ≡ 0 → ⊥
-later-tag x o z =
-    let off : (k : ℕ) → x ≡ suc k → ⊥ = λ k e. omega arith in
-    ⊎-elim (off 0) (⊎-elim (off 1) (⊎-elim (off 2) (⊎-elim (off 3) (⊎-elim (off 4) (⊎-elim (off 5) (⊎-elim (off 6) (off 7))))))) o

@@ -1,9 +1,9 @@
 -- What each small function of the pass finds, from its tests. Assumes nothing.
-use mathlib.Core.Path.{_≡_, refl, sym, ap, _∙_}
+use mathlib.Core.Path.{_≡_, sym, ap, _∙_}
 use mathlib.Core.Bool.{Bool, true, false, not}
 use mathlib.Core.List.{List, [], _∷_, _++_}
 use mathlib.Core.Option.{some}
-use Prim.Native.Nat.{ℕ, suc, _+_, _-_, _≤_, _<_}
+use Prim.Native.Nat.{ℕ, suc, _+_, _≤_, _<_}
 use native.Mathlib.Omega.{arith}
 use native.Mathlib.Numerals.{add-one}
 use borrow.Author.Tests.{lt-ltb, le-ltb, lt-leb, le-leb, eq-eqb, ne-eqb}
@@ -11,6 +11,7 @@ use lib.Dec.{leb, ltb}
 use lib.ListN.{length, getD, take, drop, set, length-set, length-drop}
 use lib.Seq.{drop-cons, getD-take, length-take-le, take-suc-set}
 use Rattle.laws.specs.Basics.{choose, both, either, member, basics}
+use Rattle.laws.proofs.Lists.{no-elements}
 use Rattle.rules.specs.Refusals.{over-limit}
 use Rattle.rules.specs.Nodes.{Node, reads}
 use Rattle.rules.specs.Datum.{node-within, datum-rules}
@@ -51,11 +52,7 @@ module _ (label : ℕ) (t : code.Tally) (k : Kept t) (i : ℕ) where
 
   pub label-nowhere : t .known ≤ i → member label (drop i mine) ≡ false
   unfolding basics
-  label-nowhere h = ap (λ (l : List ℕ). member label l) (past (drop i mine) (omega (arith, size, length-drop i mine)))
-    where
-      past : (l : List ℕ) → length l ≡ 0 → l ≡ []
-      past [] e = refl
-      past (x ∷ l) e = absurd (omega arith)
+  label-nowhere h = ap (λ (l : List ℕ). member label l) (no-elements (drop i mine) (omega (arith, size, length-drop i mine)))
 
 -- ---- mention
 

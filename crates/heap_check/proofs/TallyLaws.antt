@@ -10,7 +10,7 @@ use borrow.Author.Tests.{ltb-true, ltb-false, le-leb, lt-leb}
 use lib.Dec.{eqb, leb, ltb}
 use lib.ListN.{length, length-append}
 use Rattle.laws.specs.Basics.{choose, both, either, every, join, member, basics}
-use Rattle.laws.proofs.Tests.{true≢false}
+use Rattle.laws.proofs.Tests.{true≢false, either-false}
 use Rattle.laws.proofs.Members.{add, adds, add-known, add-new, adds-distinct, adds-longer, member-end, member-of}
 use Rattle.rules.specs.Refusals.{over-limit}
 use Rattle.rules.specs.Nodes.{Atom, Node}
@@ -95,17 +95,13 @@ none-left : (t : Tally) (begun : List ℕ) → Ready t begun → Whole t begun [
 unfolding Whole run-on pass-rules datum-rules basics adds
 none-left t begun r =
     (λ i. limits (both (leb (count i) 4096) (not (r .clean i))) (t .early))
-    ∙ (λ i. limits (both (leb (t .nodes + 0) 4096) (sym labels i)) (sym (last (t .early)) i))
+    ∙ (λ i. limits (both (leb (t .nodes + 0) 4096) (sym labels i)) (sym (either-false (t .early)) i))
   where
     count : t .nodes ≡ t .nodes + 0
     count = omega arith
 
     labels : both (leb (length (t .labels)) 64) true ≡ true
     labels = ap (λ (b : Bool). both b true) (le-leb (length (t .labels)) 64 (r .room))
-
-    last : (b : Bool) → either b false ≡ b
-    last true = refl
-    last false = refl
 
 -- a node that breaks its own number
 broken-now : (t : Tally) (n : Node) → node-within n ≡ false → stepped t n .over ≡ true

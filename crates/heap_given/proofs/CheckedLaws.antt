@@ -1,18 +1,18 @@
 -- The two tests before a call that takes scratch: 20, then 19, each of which leaves everything as it was; else the call goes on
 -- with the heap that the lists hold. Assumes nothing.
-use mathlib.Core.Path.{_≡_, ap, _∙_}
-use mathlib.Core.Bool.{Bool, true, false}
+use mathlib.Core.Path.{_≡_}
+use mathlib.Core.Bool.{true, false}
 use mathlib.Core.List.{List}
 use Prim.Native.Nat.{ℕ}
 use lib.Dec.{ltb}
 use lib.ListN.{length, getD}
 use Rattle.rules.specs.Numbers.{scratch-words}
 use Rattle.rules.specs.Refusals.{refused, unsound, short-scratch, refusals}
-use Rattle.rules.specs.Heap.{Heap, capacity}
+use Rattle.rules.specs.Heap.{Heap}
 use Rattle.rules.specs.Layout.{Lent, heap-of}
 use Rattle.rules.specs.Sound.{sound}
 use Rattle.rules.specs.Calls.{Left, left, checked}
-use Rattle.heap_sound_rows.proofs.HeapFacts.{cells-length}
+use Rattle.heap_given.proofs.HeaderLaws.{short-by-header}
 
 module _ {A : Type 0} (l : Lent) (scratch : List ℕ) (go : Heap → Left A) where
   -- 20
@@ -20,15 +20,12 @@ module _ {A : Type 0} (l : Lent) (scratch : List ℕ) (go : Heap → Left A) whe
   unfolding checked refusals
   checked-unsound e = rw e
 
-  short-by-header : (b : Bool) → ltb (length scratch) (scratch-words (getD (l .words) 1 0)) ≡ b → ltb (length scratch) (scratch-words (capacity (heap-of l))) ≡ b
-  short-by-header b e = ap (λ (n : ℕ). ltb (length scratch) (scratch-words n)) (cells-length l) ∙ e
-
   -- 19
   pub checked-short : sound l ≡ true → ltb (length scratch) (scratch-words (getD (l .words) 1 0)) ≡ true → left (refused short-scratch) l scratch ≡ checked l scratch go
   unfolding checked refusals
-  checked-short e short = rw (e, short-by-header true short)
+  checked-short e short = rw (e, short-by-header l scratch true short)
 
   -- neither
   pub checked-on : sound l ≡ true → ltb (length scratch) (scratch-words (getD (l .words) 1 0)) ≡ false → go (heap-of l) ≡ checked l scratch go
   unfolding checked refusals
-  checked-on e long = rw (e, short-by-header false long)
+  checked-on e long = rw (e, short-by-header l scratch false long)

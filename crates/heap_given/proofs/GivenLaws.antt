@@ -3,7 +3,6 @@
 use mathlib.Core.Path.{_≡_, refl, sym, ap, _∙_}
 use mathlib.Core.Bool.{Bool, true, false}
 use mathlib.Core.List.{List}
-use mathlib.Core.Logic.{_⊎_, ⊎-elim}
 use Prim.Native.Nat.{ℕ, zero, suc, _≤_, _<_}
 use native.Mathlib.Omega.{arith}
 use native.Mathlib.Decide.{decLt}
@@ -21,11 +20,10 @@ use Rattle.rules.specs.Sound.{sound, sound-rules}
 use Rattle.rules.specs.Calls.{given-scalar, given-value, given-cell, of-answer, value-in-use, cell-in-use, call-rules}
 use Rattle.rules.proofs.SoundLaws.{clauses}
 use Rattle.leaf_cells.specs.Cells.{cell-of}
-use Rattle.leaf_cells.specs.Elements.{value-of}
 use Rattle.leaf_cells.specs.declared.VCell.{VCell}
 use Rattle.leaf_cells.specs.declared.VCell.the-variants as vcell
 use Rattle.leaf_cells.specs.declared.Value.{Value}
-use Rattle.leaf_cells.specs.declared.Value.the-variants as value
+use Rattle.leaf_cells.proofs.Variants.{Plain}
 use Rattle.heap_sound_cells.specs.Looked.{used-slot, named}
 use Rattle.heap_sound.proofs.OutlineLaws.{growth-is, ground, in-use-is}
 use Rattle.heap_given.specs.Given.{cell-named}
@@ -151,40 +149,11 @@ module _ (kind a b : ℕ) where
 
 -- ---- slots in use
 
--- a variant of a value that is none of the scalars' is a slot's
-pub scalar-variant : (x : ℕ) → (x ≡ 1) ⊎ ((x ≡ 2) ⊎ ((x ≡ 3) ⊎ ((x ≡ 4) ⊎ ((x ≡ 5) ⊎ ((x ≡ 6) ⊎ (x ≡ 7)))))) → x ≡ 0 → ⊥
-scalar-variant x o e =
-    let off : (k : ℕ) → 0 < k → x ≡ k → ⊥ = λ k big p. omega arith in
-    ⊎-elim (off 1 (omega arith))
-    (⊎-elim (off 2 (omega arith))
-    (⊎-elim (off 3 (omega arith)) (⊎-elim (off 4 (omega arith)) (⊎-elim (off 5 (omega arith)) (⊎-elim (off 6 (omega arith)) (off 7 (omega arith)))))))
-    o
-
--- and of a cell, a pair's
-pub other-variant : (x : ℕ) → (x ≡ 0) ⊎ ((x ≡ 1) ⊎ ((x ≡ 2) ⊎ ((x ≡ 3) ⊎ ((x ≡ 4) ⊎ ((x ≡ 5) ⊎ ((x ≡ 6) ⊎ ((x ≡ 8) ⊎ ((x ≡ 9) ⊎ (x ≡ 10))))))))) → x ≡ 7 → ⊥
-other-variant x o e =
-    let off : (k : ℕ) → (k ≡ 7 → ⊥) → x ≡ k → ⊥ = λ k ne p. ne (omega arith) in
-    ⊎-elim (off 0 (λ q. omega arith))
-    (⊎-elim (off 1 (λ q. omega arith))
-    (⊎-elim (off 2 (λ q. omega arith))
-    (⊎-elim (off 3 (λ q. omega arith))
-    (⊎-elim (off 4 (λ q. omega arith))
-    (⊎-elim (off 5 (λ q. omega arith))
-    (⊎-elim (off 6 (λ q. omega arith)) (⊎-elim (off 8 (λ q. omega arith)) (⊎-elim (off 9 (λ q. omega arith)) (off 10 (λ q. omega arith))))))))))
-    o
-
 module _ (capacity : ℕ) (m : List ℕ) where
   -- a value that is no slot names none
-  pub scalar-named : (v : Value) → ((s : ℕ) → v ≡ value.Slot s → ⊥) → true ≡ named capacity m (value-of v)
+  pub scalar-named : (v : cells.Value) → Plain v → true ≡ named capacity m v
   unfolding named
-  scalar-named (value.Slot s) n = absurd (n s refl)
-  scalar-named value.Undefined n = refl
-  scalar-named value.Nil n = refl
-  scalar-named value.Eof n = refl
-  scalar-named value.Void n = refl
-  scalar-named (value.Bool b) n = refl
-  scalar-named (value.Char x) n = refl
-  scalar-named (value.Number x) n = refl
+  scalar-named v p = sym (ap (named capacity m) (p .is))
 
   -- nor does a cell that is no pair
   pub other-named : (c : VCell) → ((a d : ℕ) → c ≡ vcell.Pair a d → ⊥) → true ≡ cell-named capacity m (cell-of c)
@@ -221,6 +190,9 @@ module _ (l : Lent) (s : sound l ≡ true) where
   unfolding named call-rules
   value-used (slot i) = sym (in-use-lent i)
   value-used (scalar x) = refl
+
+  pub both-used : (v w : cells.Value) (t : Bool) → named (getD (l .words) 1 0) (l .map) v ≡ t → both (value-in-use (heap-of l) v) (value-in-use (heap-of l) w) ≡ both t (named (getD (l .words) 1 0) (l .map) w)
+  both-used v w t e = sym ((λ j. both (sym e j) (value-used w j)) ∙ ap (λ (b : Bool). both b (value-in-use (heap-of l) w)) (value-used v))
 
   pub cell-used : (c : Cell) → cell-named (getD (l .words) 1 0) (l .map) c ≡ cell-in-use (heap-of l) c
   unfolding cell-named call-rules

@@ -1,10 +1,9 @@
 -- What a cell in the lent lists leads to, by its kind, and slots pushed one part after the other. Assumes nothing.
 use mathlib.Core.Path.{_≡_, refl, sym, ap, _∙_, subst}
-use mathlib.Core.Bool.{Bool, true, false}
-use mathlib.Core.List.{List, [], _∷_, _++_, map, append-nil}
-use mathlib.Core.Logic.{_⊎_, ⊎-elim}
-use Prim.Native.Nat.{ℕ, zero, suc, _+_, _-_, _*_, _≤_, _<_}
-use native.Mathlib.Nat.{zero-add, add-zero}
+use mathlib.Core.Bool.{Bool}
+use mathlib.Core.List.{List, [], _∷_, _++_, map}
+use Prim.Native.Nat.{ℕ, suc, _+_, _-_, _≤_, _<_}
+use native.Mathlib.Nat.{zero-add}
 use native.Mathlib.Numerals.{add-one}
 use native.Mathlib.Omega.{arith}
 use lib.ListN.{length, getD, take, drop, length-map}
@@ -12,9 +11,9 @@ use lib.Seq.{take-suc, drop-cons, ext-getD}
 use Rattle.laws.specs.Basics.{rising, basics}
 use Rattle.laws.proofs.Lists.{length-rising, getD-map-rising}
 use Rattle.laws.proofs.Pointwise.{getD-part, length-part}
-use Rattle.rules.specs.Cells.{undefined, Value, slot, scalar, Block, block, Cell, plain, pair, vector}
-use Rattle.rules.specs.Heap.{Heap, capacity, cell-at, elements-of}
-use Rattle.rules.specs.Layout.{value-from, layout-rules}
+use Rattle.rules.specs.Cells.{undefined, Value, slot, scalar, block, plain}
+use Rattle.rules.specs.Heap.{Heap, cell-at, elements-of}
+use Rattle.rules.specs.Layout.{layout-rules}
 use Rattle.rules.specs.Collect.{slots-among, leads-to}
 use Rattle.leaf_cells.specs.Cells.{cell-of, loaded}
 use Rattle.leaf_cells.specs.Elements.{value-of, loaded-element}
@@ -22,49 +21,23 @@ use Rattle.leaf_cells.specs.declared.VCell.{VCell}
 use Rattle.leaf_cells.specs.declared.VCell.the-variants as cell
 use Rattle.leaf_cells.specs.declared.Value as given
 use Rattle.leaf_cells.specs.declared.Value.the-variants as value
+use Rattle.leaf_cells.proofs.Variants.{Plain}
 use Rattle.heap_sound_rows.specs.Rows.{lists}
-use Rattle.heap_sound_rows.proofs.HeapFacts.{cells-length, elements-length}
+use Rattle.heap_sound_rows.proofs.HeapFacts.{elements-length}
 use Rattle.heap_mark.specs.Marks.{values, linked, leads, Rowed, CanPush, Pushed}
 use Rattle.heap_mark.proofs.Pushes.{can-rest, pushed-on, pushed-none, can-first, pushed-size}
 
 -- ---- a value
 
--- a variant from 1 on is not the first
-pub later-variant : (x : ℕ) → (x ≡ 1) ⊎ ((x ≡ 2) ⊎ ((x ≡ 3) ⊎ ((x ≡ 4) ⊎ ((x ≡ 5) ⊎ ((x ≡ 6) ⊎ (x ≡ 7)))))) → x ≡ 0 → ⊥
-later-variant x o z =
-    let off : (k : ℕ) → x ≡ suc k → ⊥ = λ k e. omega arith in
-    ⊎-elim (off 0) (⊎-elim (off 1) (⊎-elim (off 2) (⊎-elim (off 3) (⊎-elim (off 4) (⊎-elim (off 5) (off 6)))))) o
-
-pub no-slot : (v : given.Value) → ((s : ℕ) → v ≡ value.Slot s → ⊥) → slots-among (value-of v ∷ []) ≡ []
+pub no-slot : (v : Value) → Plain v → slots-among (v ∷ []) ≡ []
 unfolding slots-among
-no-slot (value.Slot s) d = absurd (d s refl)
-no-slot value.Undefined d = refl
-no-slot value.Nil d = refl
-no-slot value.Eof d = refl
-no-slot value.Void d = refl
-no-slot (value.Bool b) d = refl
-no-slot (value.Char n) d = refl
-no-slot (value.Number n) d = refl
+no-slot v p = ap (λ (w : Value). slots-among (w ∷ [])) (p .is)
 
 pub one-slot : (v : given.Value) (s : ℕ) → v ≡ value.Slot s → slots-among (value-of v ∷ []) ≡ s ∷ []
 unfolding slots-among
 one-slot v s e = ap (λ (w : given.Value). slots-among (value-of w ∷ [])) e
 
 -- ---- a cell
-
--- the variants of a cell that is neither pair nor vector
-pub other-variant : (x : ℕ) → (x ≡ 0) ⊎ ((x ≡ 1) ⊎ ((x ≡ 2) ⊎ ((x ≡ 3) ⊎ ((x ≡ 4) ⊎ ((x ≡ 5) ⊎ ((x ≡ 6) ⊎ ((x ≡ 8) ⊎ (x ≡ 9)))))))) → (x ≡ 7) ⊎ (x ≡ 10) → ⊥
-other-variant x o is =
-    let off : (k : ℕ) → k < 7 → x ≡ k → ⊥ = λ k small e. ⊎-elim (λ p. omega arith) (λ p. omega arith) is in
-    ⊎-elim (off 0 (omega arith))
-    (⊎-elim (off 1 (omega arith))
-    (⊎-elim (off 2 (omega arith))
-    (⊎-elim (off 3 (omega arith))
-    (⊎-elim (off 4 (omega arith))
-    (⊎-elim (off 5 (omega arith))
-    (⊎-elim (off 6 (omega arith))
-    (⊎-elim (λ e. ⊎-elim (λ p. omega arith) (λ p. omega arith) is) (λ e. ⊎-elim (λ p. omega arith) (λ p. omega arith) is))))))))
-    o
 
 no-leads : (h : Heap) (c : VCell) → ((a d : ℕ) → c ≡ cell.Pair a d → ⊥) → ((p n : ℕ) → c ≡ cell.Vector p n → ⊥) → leads-to h (cell-of c) ≡ []
 unfolding leads-to

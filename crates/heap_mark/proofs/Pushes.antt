@@ -5,22 +5,21 @@ use mathlib.Core.Path.{_≡_, refl, sym, ap, _∙_, subst}
 use mathlib.Core.Bool.{Bool, true, false}
 use mathlib.Core.List.{List, [], _∷_, _++_}
 use mathlib.Core.Logic.{_⊎_, inl, inr, ⊎-elim}
-use Prim.Native.Nat.{ℕ, zero, suc, _+_, _*_, _/_, _%_, _≤_, _<_}
+use Prim.Native.Nat.{ℕ, _+_, _/_, _≤_, _<_}
 use native.Mathlib.Omega.{arith}
 use native.Mathlib.Numerals.{add-one}
 use native.Mathlib.Decide.{ℕ-discrete, decLt}
 use borrow.Author.Tests.{eqb-true, eqb-false, eq-eqb, ltb-true, lt-ltb}
 use lib.Dec.{eqb, ltb}
-use lib.ListN.{length, getD, set, take, length-append, length-take}
+use lib.ListN.{length, set, take, length-append}
 use lib.Seq.{length-take-le, take-suc-set}
-use Rattle.laws.specs.Basics.{choose, both, either, every, member, basics}
+use Rattle.laws.specs.Basics.{choose, every, member, basics}
 use Rattle.laws.proofs.Tests.{true≢false, both-left, both-right, both-true, either-cases, either-left, either-right, every-front, every-back}
-use Rattle.laws.proofs.Members.{member-end}
+use Rattle.laws.proofs.Members.{member-end, first-member, later-member, member-cases}
 use Rattle.laws.proofs.Pointwise.{every-weaker}
 use Rattle.rules.specs.Map.{Used, state-of, set-state, set-low-bits}
 use Rattle.rules.proofs.TwoBits.{Bytes, state-past, set-state-length, state-same, state-other, stay-bytes, set-low-bits-change}
 use Rattle.heap_mark.specs.Marks.{is-marked, held, Marking, marking, push-one, push-all, standing, CanPush, Pushed, mark-rules}
-use Rattle.collect_laws.proofs.Reach.{first-member, later-member, member-cases}
 
 -- ---- one slot
 

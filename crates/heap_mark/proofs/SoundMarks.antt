@@ -11,6 +11,7 @@ use lib.ListN.{length, getD}
 use Rattle.laws.specs.Basics.{every, member}
 use Rattle.laws.proofs.Tests.{both-left}
 use Rattle.laws.proofs.Pointwise.{every-weaker}
+use Rattle.laws.proofs.Members.{member-every}
 use Rattle.rules.specs.Numbers.{scratch-words}
 use Rattle.rules.specs.Map.{Used, state-of, is-allocated, set-low-bits, map-rules}
 use Rattle.rules.specs.Cells.{Cell, plain, pair, symbol, string, vector}
@@ -25,7 +26,7 @@ use Rattle.rules.proofs.GoodSound.{sound-good}
 use Rattle.heap_sound_rows.specs.Rows.{lists}
 use Rattle.heap_sound_rows.proofs.HeapFacts.{cells-length, elements-length}
 use Rattle.heap_mark.specs.Marks.{is-marked, linked, leads, Rowed, CanMark}
-use Rattle.collect_laws.proofs.Reach.{member-every, marked-alike}
+use Rattle.collect_laws.proofs.Reach.{marked-alike}
 use Rattle.collect_laws.proofs.Leading.{leads-used, marked-in-use}
 
 -- ---- sound lists

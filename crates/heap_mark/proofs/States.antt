@@ -3,20 +3,19 @@ use mathlib.Core.Path.{_≡_, refl, sym, ap, _∙_}
 use mathlib.Core.Bool.{Bool, true, false}
 use mathlib.Core.List.{List, [], _∷_}
 use mathlib.Core.Logic.{⊎-elim}
-use Prim.Native.Nat.{ℕ, _+_, _*_, _/_, _%_, _^_, _≤_, _<_}
+use Prim.Native.Nat.{ℕ, _+_, _*_, _/_, _%_, _<_}
 use native.Mathlib.Omega.{arith}
 use native.Mathlib.Decide.{ℕ-discrete}
 use borrow.Author.Tests.{ne-eqb}
-use lib.Dec.{eqb}
 use lib.ListN.{length, getD}
 use lib.Seq.{ext-getD}
 use Rattle.laws.specs.Basics.{either, member, basics}
 use Rattle.laws.proofs.Below.{agree}
-use Rattle.laws.proofs.Tests.{true≢false, either-cases}
+use Rattle.laws.proofs.Tests.{true≢false}
+use Rattle.laws.proofs.Members.{member-cases, first-member, later-member}
 use Rattle.rules.specs.Map.{state-in, state-of, set-state, map-rules}
 use Rattle.rules.proofs.TwoBits.{Bytes, set-state-length, state-same, state-other, stay-bytes}
 use Rattle.heap_mark.specs.Marks.{set-states}
-use Rattle.collect_laws.proofs.Reach.{member-cases, first-member, later-member}
 
 -- a byte is its four states
 byte-is : (b : ℕ) → b < 256 → b ≡ state-in b 0 + 4 * (state-in b 1 + 4 * (state-in b 2 + 4 * state-in b 3))

@@ -4,16 +4,16 @@ use mathlib.Core.Path.{_≡_, refl, sym, ap, _∙_, subst}
 use mathlib.Core.Bool.{Bool, true, false}
 use mathlib.Core.List.{List, [], _∷_, _++_}
 use mathlib.Core.Logic.{⊎-elim}
-use Prim.Native.Nat.{ℕ, suc, _+_, _-_, _*_, _/_, _≤_, _<_}
+use Prim.Native.Nat.{ℕ, suc, _+_, _-_, _/_, _≤_, _<_}
 use native.Mathlib.Omega.{arith}
 use native.Mathlib.Decide.{ℕ-discrete}
 use borrow.Author.Tests.{eqb-true, eqb-false, eq-eqb}
 use lib.Dec.{eqb}
 use lib.ListN.{length, getD, take}
 use lib.Seq.{take-suc}
-use Rattle.laws.specs.Basics.{either, every, member, basics}
+use Rattle.laws.specs.Basics.{member, basics}
 use Rattle.laws.proofs.Tests.{true≢false, either-cases, either-left, either-right}
-use Rattle.laws.proofs.Members.{member-end}
+use Rattle.laws.proofs.Members.{member-end, among, is-member, every-member}
 use Rattle.laws.proofs.Pointwise.{every-weaker}
 use Rattle.rules.specs.Map.{Used, state-of, is-allocated, set-low-bits, map-rules}
 use Rattle.rules.specs.Heap.{Heap, capacity, cell-at}
@@ -21,8 +21,8 @@ use Rattle.rules.specs.Collect.{leads-to, Reached, root, next, marked}
 use Rattle.rules.proofs.TwoBits.{Bytes}
 use Rattle.heap_sound_rows.specs.Rows.{lists}
 use Rattle.heap_sound_rows.proofs.HeapFacts.{cells-length}
-use Rattle.heap_mark.specs.Marks.{is-marked, held, set-states, marking, standing, CanPush, Pushed, linked, leads, CanMark, marked-map, mark-rules}
-use Rattle.collect_laws.proofs.Reach.{among, is-member, every-member, member-every, marked-reached, reached-marked}
+use Rattle.heap_mark.specs.Marks.{held, marking, CanPush, Pushed, linked, leads, CanMark, marked-map, mark-rules}
+use Rattle.collect_laws.proofs.Reach.{marked-reached, reached-marked}
 use Rattle.heap_mark.proofs.Pushes.{Grown, held-in-map, is-held, pushed-grown, pushed-total, pushed-size}
 use Rattle.heap_mark.proofs.States.{same-states, states-length, states-bytes, states-other, states-here}
 

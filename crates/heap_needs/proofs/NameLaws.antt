@@ -12,22 +12,20 @@ use lib.Dec.{eqb}
 use lib.ListN.{length, getD, take, drop, set, length-set}
 use lib.Seq.{getD-set-same, getD-set-other}
 use Rattle.laws.specs.Basics.{choose, both, either, same, basics}
+use Rattle.laws.proofs.Tests.{either-false}
+use Rattle.laws.proofs.Writing.{part-end}
 use Rattle.leaf_symbols.specs.declared.Found.{Found}
 use Rattle.leaf_symbols.specs.declared.Found.the-variants.{At, Missing}
 use Rattle.leaf_symbols.specs.Table.{shown-found, found-in}
 use Rattle.heap_needs.specs.declared.Tally.{Tally}
 use Rattle.heap_needs.specs.Needs.{Name, Needs, a-name, met, symbol-needs, needs-rules}
 use Rattle.heap_needs.specs.Pass.{name-in, names-in, Rows, needs-in, known-in, Countable, Counted, pass-rules}
-use Rattle.heap_needs.proofs.Standing.{any-append, either-false}
+use Rattle.heap_needs.proofs.Standing.{any-append}
 
 -- a part by its ends is the part by its size
 pub part-sized : (datum : List ℕ) (size end : ℕ) → size ≤ end → take (end - (end - size)) (drop (end - size) datum) ≡ take size (drop (end - size) datum)
 part-sized datum size end h =
     let e : end - (end - size) ≡ size = omega arith in ap (λ (n : ℕ). take n (drop (end - size) datum)) e
-
-pub part-from : (datum : List ℕ) (start size : ℕ) → take (start + size - start) (drop start datum) ≡ take size (drop start datum)
-part-from datum start size =
-    let e : start + size - start ≡ size = omega arith in ap (λ (n : ℕ). take n (drop start datum)) e
 
 -- ---- looking for a name
 
@@ -60,7 +58,7 @@ module _ (keys datum text : List ℕ) (scope i : ℕ) (some : 0 < i) where
     scope-text : (b : Bool) → same part text ≡ b → both (eqb (getD keys (3 * (i - 1) + 2) 0) scope) (same (name-in keys datum (i - 1) .text) text) ≡ b
     scope-text b e =
         ap (λ (b : Bool). both b (same (name-in keys datum (i - 1) .text) text)) (eq-eqb (getD keys (3 * (i - 1) + 2) 0) scope same-scope)
-        ∙ ap (λ (l : List ℕ). same l text) (sym (part-from datum (getD keys (3 * (i - 1)) 0) (getD keys (3 * (i - 1) + 1) 0))) ∙ e
+        ∙ ap (λ (l : List ℕ). same l text) (sym (part-end datum (getD keys (3 * (i - 1)) 0) (getD keys (3 * (i - 1) + 1) 0))) ∙ e
 
     pub other-text : same part text ≡ false → met (names-in keys datum i) text scope ≡ met (names-in keys datum (i - 1)) text scope
     other-text e = not-here (scope-text false e)

@@ -11,9 +11,9 @@ use lib.Seq.{drop-drop, take-length}
 use Rattle.laws.specs.Basics.{every, join, basics}
 use Rattle.laws.proofs.Tests.{both-left, both-right}
 use Rattle.rules.specs.Nodes.{Node, reads, read-node, write-node, node-fits}
-use Rattle.rules.specs.Datum.{Datum, Data, end, more, how-many, nodes, all-nodes, encode, good, parse, datum-fits, datum-rules}
+use Rattle.rules.specs.Datum.{Datum, Data, end, more, how-many, nodes, all-nodes, encode, parse, datum-fits, datum-rules}
 use Rattle.rules.proofs.Nodes.{read-written, write-positive}
-use Rattle.rules.proofs.Datum.{parse-encode}
+use Rattle.rules.proofs.Datum.{parse-encode, good-value}
 use Rattle.leaf_nodes.specs.declared.Node as leaf
 use Rattle.leaf_nodes.specs.declared.Node.the-variants.{Faulty, Plain, String, Symbol, Ident, Ref, Pair, Vector, Def}
 use Rattle.leaf_nodes.specs.declared.Read.{Read}
@@ -357,12 +357,9 @@ module _ (known : List ℕ → ℕ → Bool) (datum : List ℕ) where
       let x = w .goes (u .awaits) (need known true (u .tree) no-needs) (u .doing) in
       record { tree = u .tree; written = u .written; fits = u .fits; awaits = x .0; doing = x .1 }
 
-  good-same : {a b : Datum} → good a ≡ good b → a ≡ b
-  good-same e = cc
-
   -- a datum's tree is known by its bytes
   one-tree : (a b : Datum) → encode a ≡ encode b → datum-fits a ≡ true → datum-fits b ≡ true → a ≡ b
-  one-tree a b e f g = good-same (sym (parse-encode a f) ∙ ap parse e ∙ parse-encode b g)
+  one-tree a b e f g = good-value (sym (parse-encode a f) ∙ ap parse e ∙ parse-encode b g)
 
   pub under-ends : {keys stack : List ℕ} {t : Tally} → Under known datum keys stack t → t .top ≡ 0 → (d : Datum) → datum ≡ encode d → datum-fits d ≡ true → needs-in keys datum t ≡ need known true d no-needs
   unfolding pass-rules

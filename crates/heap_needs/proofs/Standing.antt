@@ -10,6 +10,7 @@ use lib.Dec.{eqb}
 use lib.ListN.{length, take, drop, replicate, length-append, length-set, length-replicate}
 use Rattle.laws.specs.Basics.{both, either, find, any, same, basics}
 use Rattle.laws.proofs.Finding.{find-same}
+use Rattle.laws.proofs.Tests.{either-false}
 use Rattle.rules.specs.Cells.{Value, undefined, scalar, Block, Cell, plain, pair, symbol, string, vector}
 use Rattle.rules.specs.Heap.{Heap, Entry, Given, text-of, name-at, used-count, block-after, with-cell, with-element, with-bytes, with-elements, with-entry, alloc, heap-rules}
 use Rattle.rules.specs.Layout.{entry-at}
@@ -44,10 +45,6 @@ module _ {A : Type 0} (f : A → Bool) where
 pub either-assoc : (a b c : Bool) → either (either a b) c ≡ either a (either b c)
 either-assoc true b c = refl
 either-assoc false b c = refl
-
-pub either-false : (a : Bool) → either a false ≡ a
-either-false true = refl
-either-false false = refl
 
 -- ---- names that stand in a table
 

@@ -9,7 +9,7 @@ use native.Mathlib.Omega.{arith}
 use lib.Dec.{eqb, ltb}
 use lib.ListN.{length, replicate}
 use Rattle.laws.specs.Basics.{choose, both, either, every, same, basics}
-use Rattle.laws.proofs.Tests.{both-right, every-front, every-back, true≢false}
+use Rattle.laws.proofs.Tests.{both-right, every-front, every-back, true≢false, either-false}
 use Rattle.laws.proofs.Pointwise.{every-same}
 use Rattle.rules.specs.Cells.{undefined, slot, scalar, Cell, plain, symbol}
 use Rattle.rules.specs.Nodes.{Atom, Node, node-fits}
@@ -22,10 +22,10 @@ use Rattle.rules.proofs.Keeping.{with-elements-good, with-element-good}
 use Rattle.rules.proofs.Allocate.{took}
 use Rattle.rules.proofs.Grows.{unlisted-kept}
 use Rattle.rules.proofs.PutCells.{took-unlisted}
-use Rattle.rules.proofs.PutGood.{Labels, begun-by, begun-all, Put-done, put-done, put-all-done}
+use Rattle.rules.proofs.PutGood.{begun-by, begun-all, Put-done, put-done, put-all-done, no-labels, later}
 use Rattle.heap_needs.specs.Needs.{Name, Needs, no-needs, in-table, met, a-slot, a-text, a-block, a-name, symbol-needs, node-needs, need, need-all, needs-of, needs-rules}
-use Rattle.heap_needs.proofs.Standing.{any-append, either-assoc, either-false, Adds, took-adds, cell-adds, elements-adds, element-adds, new-cell-adds, text-adds, make-symbol-names}
-use Rattle.heap_needs.proofs.Along.{later, Going, slot-going, label-going}
+use Rattle.heap_needs.proofs.Standing.{any-append, either-assoc, Adds, took-adds, cell-adds, elements-adds, element-adds, new-cell-adds, text-adds, make-symbol-names}
+use Rattle.heap_needs.proofs.Along.{Going, slot-going, label-going}
 
 -- the table holds what it held at the start and the names met since
 abbrev pub Names : (List ℕ → ℕ → Bool) → List Name → Heap → Type 0
@@ -247,10 +247,6 @@ module _ (known : List ℕ → ℕ → Bool) where
 no-names : (h : Heap) → Names (in-table h) [] h
 unfolding needs-rules basics
 no-names h text scope = sym (either-false (in-table h text scope))
-
-no-labels : (h : Heap) → Labels [] (making h [])
-unfolding basics
-no-labels h l e = absurd (true≢false (sym e))
 
 -- the slots and rooms after a put: those before, and what the datum needs
 pub record Needed (h h' : Heap) (t : Needs) : Type 0 where

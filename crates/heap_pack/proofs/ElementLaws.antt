@@ -1,18 +1,19 @@
 -- The pass over the elements, slot by slot, three words each. Assumes nothing.
 use mathlib.Core.Path.{_≡_, refl, sym, ap, _∙_, subst}
 use mathlib.Core.Bool.{Bool, true, false, not, true≢false}
-use mathlib.Core.List.{List, [], _∷_, _++_, append-assoc}
+use mathlib.Core.List.{List, _++_, append-assoc}
 use mathlib.Core.Option.{Option, none, some}
-use Prim.Native.Nat.{ℕ, zero, suc, _+_, _-_, _*_, _/_, _≤_, _<_}
+use Prim.Native.Nat.{ℕ, suc, _+_, _-_, _*_, _/_, _≤_, _<_}
 use native.Mathlib.Omega.{arith}
 use native.Mathlib.Numerals.{add-one}
 use borrow.Author.Tests.{leb-true, eqb-true, eq-eqb}
 use lib.Dec.{eqb, leb}
 use lib.ListN.{take-append-drop, length, getD, take, drop, set, length-append, length-drop, length-set}
-use lib.Seq.{take-nil, drop-nil, take-at, drop-at, drop-drop, take-append-add, drop-append-add}
-use Rattle.laws.specs.Basics.{choose, either, join, basics}
+use lib.Seq.{take-at, drop-at, drop-drop}
+use Rattle.laws.specs.Basics.{choose, either, join}
 use Rattle.laws.proofs.Tests.{both-left, both-right, join-append}
 use Rattle.laws.proofs.Pointwise.{part-append}
+use Rattle.laws.proofs.Lists.{take-rows, drop-rows}
 use Rattle.rules.specs.Cells.{undefined, Value, Block, block, Cell, plain, pair, symbol, string, vector}
 use Rattle.rules.specs.Heap.{Heap, capacity, cell-at, part-of}
 use Rattle.rules.specs.Layout.{words-of, filled, value-words}
@@ -32,34 +33,10 @@ use Rattle.heap_pack.proofs.TextLaws.{changed-at, changed-next, changed
 
 -- ---- three words an element
 
-take-values : (n : ℕ) (vs : List Value) → take (3 * n) (value-list vs) ≡ value-list (take n vs)
-unfolding basics
-take-values zero vs = refl
-take-values (suc n) [] = take-nil (3 * suc n)
-take-values (suc n) (v ∷ vs) =
-    ap (λ (k : ℕ). take k (value-words v ++ value-list vs)) (next n)
-    ∙ ap (λ (k : ℕ). take (k + 3 * n) (value-words v ++ value-list vs)) (sym (value-width v))
-    ∙ take-append-add (value-words v) (value-list vs) (3 * n)
-    ∙ ap (λ (l : List ℕ). value-words v ++ l) (take-values n vs)
-  where
-    next : (n : ℕ) → 3 * suc n ≡ 3 + 3 * n
-    next n = omega arith
-
-drop-values : (n : ℕ) (vs : List Value) → drop (3 * n) (value-list vs) ≡ value-list (drop n vs)
-unfolding basics
-drop-values zero vs = refl
-drop-values (suc n) [] = drop-nil (3 * suc n)
-drop-values (suc n) (v ∷ vs) =
-    ap (λ (k : ℕ). drop k (value-words v ++ value-list vs)) (next n)
-    ∙ ap (λ (k : ℕ). drop (k + 3 * n) (value-words v ++ value-list vs)) (sym (value-width v))
-    ∙ drop-append-add (value-words v) (value-list vs) (3 * n)
-    ∙ drop-values n vs
-  where
-    next : (n : ℕ) → 3 * suc n ≡ 3 + 3 * n
-    next n = omega arith
-
 part-values : (vs : List Value) (b : Block) → part-of (value-list vs) (block (3 * b .place) (3 * b .size)) ≡ value-list (part-of vs b)
-part-values vs b = ap (take (3 * b .size)) (drop-values (b .place) vs) ∙ take-values (b .size) (drop (b .place) vs)
+part-values vs b =
+    ap (take (3 * b .size)) (drop-rows 3 value-words value-width (b .place) vs)
+    ∙ take-rows 3 value-words value-width (b .size) (drop (b .place) vs)
 
 pub values-append : (vs ws : List Value) → value-list (vs ++ ws) ≡ value-list vs ++ value-list ws
 values-append vs ws = join-append value-words vs ws

@@ -1,13 +1,13 @@
 -- A room whose front was packed: what is behind it is cleared. Assumes nothing.
 use mathlib.Core.Path.{_≡_, refl, sym, ap, _∙_}
-use mathlib.Core.List.{List, [], _∷_, _++_}
+use mathlib.Core.List.{List, _++_}
 use Prim.Native.Nat.{ℕ, _+_, _-_, _≤_}
 use native.Mathlib.Omega.{arith}
-use borrow.Rule.Slice.PartMut.{putMid, midOf, postOf}
+use borrow.Rule.Slice.PartMut.{putMid, midOf}
 use lib.ListN.{length, take, drop, length-append, length-drop}
 use lib.Seq.{sets-eq, take-at, drop-at, drop-drop}
 use Rattle.laws.specs.Basics.{zeros}
-use Rattle.laws.proofs.Stores.{zeros-add}
+use Rattle.laws.proofs.Zeros.{zeros-append}
 use Rattle.laws.proofs.Pointwise.{length-part}
 use Rattle.rules.specs.Layout.{filled}
 use Rattle.rules.proofs.LentLaws.{filled-length}
@@ -50,7 +50,7 @@ module _ (room end used : ℕ) (new was now : List ℕ) (ends : end ≡ length n
   unfolding filled
   cleared-behind clear c =
       (λ i. front i ++ ((c ∙ ap zeros size) i ++ spare i))
-      ∙ ap (λ (x : List ℕ). new ++ x) (zeros-add (used - end) (room - length was))
+      ∙ ap (λ (x : List ℕ). new ++ x) (zeros-append (used - end) (room - length was))
       ∙ ap (λ (k : ℕ). new ++ zeros k) upto
     where
       front : take end now ≡ new

@@ -1,10 +1,10 @@
 -- A slot's turn, from what its parts did. Assumes nothing.
 use mathlib.Core.Path.{_≡_, refl, sym, ap, _∙_, subst}
 use mathlib.Core.List.{List}
-use Prim.Native.Nat.{ℕ, zero, suc, _/_, _<_}
-use native.Mathlib.Omega.{arith}
+use Prim.Native.Nat.{ℕ, _/_, _<_}
 use lib.ListN.{length}
-use Rattle.rules.specs.Cells.{Block, Cell}
+use Rattle.laws.proofs.Variants.{positive}
+use Rattle.rules.specs.Cells.{Block}
 use Rattle.rules.specs.Sound.{text-block, vector-block}
 use Rattle.leaf_cells.specs.Cells.{cell-of, loaded, stored-cell, Stored}
 use Rattle.leaf_cells.specs.declared.VCell.{VCell}
@@ -12,10 +12,6 @@ use Rattle.leaf_cells.specs.declared.Change.{Change}
 use Rattle.heap_pack.specs.declared.Span.{Span}
 use Rattle.heap_pack.specs.declared.Gone.{Gone}
 use Rattle.heap_pack.specs.Moves.{shown, placed, Written, TextMoved, ElementsMoved, TextReady, TextTurned, no-text, text-goes, ElementsReady, ElementsTurned, no-vector, vector-goes}
-
-positive : (n : ℕ) → (n ≡ 0 → ⊥) → 0 < n
-positive zero h = absurd (h refl)
-positive (suc n) h = omega arith
 
 module _ (words old table : List ℕ) (at s : ℕ) (c : VCell) (b : Span) (loads : cell-of c ≡ loaded words s) where
   -- the cell that is stored

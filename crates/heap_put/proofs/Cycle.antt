@@ -1,21 +1,22 @@
 -- What each part of a put hands to the next, and what comes of it. Assumes nothing.
 use mathlib.Core.Path.{_≡_, refl, sym, ap, _∙_, subst}
-use mathlib.Core.Bool.{Bool, true, false}
+use mathlib.Core.Bool.{Bool, true}
 use mathlib.Core.List.{List, [], _∷_, _++_, append-assoc, append-nil}
 use mathlib.Core.Option.{Option, none, some}
 use Prim.Native.Nat.{ℕ, zero, suc, _+_, _-_, _*_, _≤_, _<_}
 use native.Mathlib.Omega.{arith}
 use lib.ListN.{length, take, drop, set, replicate, length-append, length-drop, length-set, length-replicate}
 use lib.Seq.{drop-at, drop-drop}
-use Rattle.laws.specs.Basics.{both, every, join, basics}
-use Rattle.laws.proofs.Tests.{both-left, both-right, both-true, every-front, every-back, join-append}
+use Rattle.laws.specs.Basics.{every, join, basics}
+use Rattle.laws.proofs.Tests.{both-left, both-right, every-front, every-back, join-append}
+use Rattle.laws.proofs.Writing.{to-end}
 use Rattle.rules.specs.Cells.{Value, slot, scalar, undefined, Cell, plain, pair, symbol, string, vector, block}
-use Rattle.rules.specs.Nodes.{Atom, Node, Reading, reads, read-node, write-node, node-fits}
+use Rattle.rules.specs.Nodes.{Atom, Node, read-node, write-node, node-fits}
 use Rattle.rules.specs.Datum.{Datum, Data, end, more, how-many, nodes, all-nodes, encode, datum-fits, datum-rules}
 use Rattle.rules.specs.Datum as tree
-use Rattle.rules.specs.Heap.{Heap, Entry, Given, capacity, used-count, alloc, found, shown, with-cell, with-bytes, with-elements, with-element, with-entry, block-after, heap-rules}
+use Rattle.rules.specs.Heap.{Heap, Entry, Given, capacity, used-count, alloc, found, shown, with-cell, with-bytes, with-elements, with-element, block-after}
 use Rattle.rules.specs.Layout.{Rooms, words-of, map-bytes, filled, value-words}
-use Rattle.rules.specs.Put.{Label, Making, Put, making, put-as, new-cell, in-slot, slot-in, put-string, make-symbol, put-symbol, with-label, slot-of, begin-label, labelled, end-label, with-block, store-at, put-atom, put, put-all, put-rules}
+use Rattle.rules.specs.Put.{Making, Put, making, put-as, new-cell, in-slot, slot-in, make-symbol, put-symbol, with-label, begin-label, labelled, with-block, store-at, put-atom, put, put-all, put-rules}
 use Rattle.rules.proofs.LentLaws.{words-length, filled-length, elements-length}
 use Rattle.leaf_cells.specs.Elements.{value-of, ElementStored}
 use Rattle.leaf_cells.specs.Rooms.{Reserved}
@@ -24,16 +25,16 @@ use Rattle.leaf_cells.specs.declared.Value.the-variants as value
 use Rattle.leaf_cells.specs.declared.ElementChange as code-change
 use Rattle.leaf_cells.proofs.CallLaws.{reserve-words, reserve-place, reserve-elems, store-element-on}
 use Rattle.leaf_free.specs.FreeList.{ready, CanAlloc, Popped}
-use Rattle.leaf_free.proofs.Allocating.{Growing, available, Given-by}
+use Rattle.leaf_free.proofs.Allocating.{Given-by}
 use Rattle.heap_labels.specs.Labels.{labels-in, Defined}
 use Rattle.heap_steps.specs.Steps.{Open, CellMade}
 use Rattle.heap_steps.specs.Places.{shape-of, at, new, SlotOpen, SlotMade, CopyOpen}
-use Rattle.heap_steps.proofs.Sizes.{Sized, Larger, larger-on, alloc-taken, new-cell-larger, larger-block, larger-element, in-slot-larger, put-atom-larger, labelled-larger, end-label-larger, put-larger, put-all-larger}
+use Rattle.heap_steps.proofs.Sizes.{Sized, Larger, alloc-taken, new-cell-larger, larger-block, larger-element, in-slot-larger, labelled-larger, end-label-larger, put-larger, put-all-larger}
 use Rattle.heap_steps.proofs.CellSteps.{can-alloc-on, given-on}
-use Rattle.heap_atoms.specs.Makings.{Stands, Able, Within, Head, an-atom, a-pair, a-vector, a-label, head-of-node, head-of}
+use Rattle.heap_atoms.specs.Makings.{Stands, Able, Within, an-atom, a-pair, a-vector, a-label, head-of-node, head-of}
 use Rattle.heap_atoms.specs.Tasks.{Task, Done, AtomTask, AtomDone, SlotTask, SlotDone, ElementTask, ElementDone, encode-all, AllTask, AllDone}
-use Rattle.heap_atoms.proofs.Keeping.{within-before, some-available, able-sized, Below, Kept, taken, new-cell-kept, new-cell-used, in-slot-kept, labelled-kept, labelled-used, end-label-kept, put-kept, put-all-kept, able-block, able-element}
-use Rattle.heap_atoms.proofs.Trees.{first, others, written, read-first, encode-is, encode-length, first-fits, others-fit, IsPair, IsVector, IsLabel, is-atom, is-pair, is-vector, is-label}
+use Rattle.heap_atoms.proofs.Keeping.{within-before, some-available, able-sized, Below, Kept, taken, new-cell-used, in-slot-kept, labelled-kept, labelled-used, put-kept, put-all-kept, able-block, able-element}
+use Rattle.heap_atoms.proofs.Trees.{first, read-first, IsPair, IsVector, IsLabel, is-atom, is-pair, is-vector, is-label}
 
 -- ---- which tree begins with the node that was seen
 
@@ -847,27 +848,24 @@ module _ (r : Rooms) (f : ℕ) (m : Making) (l : ℕ) (d : Datum) (rest : List �
 
 -- ---- parts of the datum, as the code hands them on
 
-pub tail : (l : List ℕ) (k : ℕ) → take (length l - k) (drop k l) ≡ drop k l
-tail l k = lib.Seq.take-all (length l - k) (drop k l) (omega (arith, length-drop k l))
-
 pub tail-length : (l : List ℕ) (k : ℕ) → length (take (length l - k) (drop k l)) ≡ length l - k
-tail-length l k = ap length (tail l k) ∙ length-drop k l
+tail-length l k = ap length (to-end l k) ∙ length-drop k l
 
 pub task-part : (r : Rooms) (f : ℕ) (m : Making) (t : Datum) (rest : List ℕ) (count : ℕ) (l : List ℕ) (k : ℕ) (words map bytes elems labels : List ℕ) → Task r f m t rest count (drop k l) words map bytes elems labels → Task r f m t rest count (take (length l - k) (drop k l)) words map bytes elems labels
 task-part r f m t rest count l k words map bytes elems labels h =
-    subst (λ (x : List ℕ). Task r f m t rest count x words map bytes elems labels) (sym (tail l k)) h
+    subst (λ (x : List ℕ). Task r f m t rest count x words map bytes elems labels) (sym (to-end l k)) h
 
 pub slot-part : (r : Rooms) (f : ℕ) (m : Making) (t : Datum) (rest : List ℕ) (count : ℕ) (l : List ℕ) (k : ℕ) (words map bytes elems labels : List ℕ) → SlotTask r f m t rest count (drop k l) words map bytes elems labels → SlotTask r f m t rest count (take (length l - k) (drop k l)) words map bytes elems labels
 slot-part r f m t rest count l k words map bytes elems labels h =
-    subst (λ (x : List ℕ). SlotTask r f m t rest count x words map bytes elems labels) (sym (tail l k)) h
+    subst (λ (x : List ℕ). SlotTask r f m t rest count x words map bytes elems labels) (sym (to-end l k)) h
 
 pub element-part : (r : Rooms) (f : ℕ) (m : Making) (t : Datum) (rest : List ℕ) (place count : ℕ) (l : List ℕ) (k : ℕ) (words map bytes elems labels : List ℕ) → ElementTask r f m t rest place count (drop k l) words map bytes elems labels → ElementTask r f m t rest place count (take (length l - k) (drop k l)) words map bytes elems labels
 element-part r f m t rest place count l k words map bytes elems labels h =
-    subst (λ (x : List ℕ). ElementTask r f m t rest place count x words map bytes elems labels) (sym (tail l k)) h
+    subst (λ (x : List ℕ). ElementTask r f m t rest place count x words map bytes elems labels) (sym (to-end l k)) h
 
 pub all-part : (r : Rooms) (f : ℕ) (m : Making) (ds : Data) (rest : List ℕ) (place n count : ℕ) (l : List ℕ) (k : ℕ) (words map bytes elems labels : List ℕ) → AllTask r f m ds rest place n count (drop k l) words map bytes elems labels → AllTask r f m ds rest place n count (take (length l - k) (drop k l)) words map bytes elems labels
 all-part r f m ds rest place n count l k words map bytes elems labels h =
-    subst (λ (x : List ℕ). AllTask r f m ds rest place n count x words map bytes elems labels) (sym (tail l k)) h
+    subst (λ (x : List ℕ). AllTask r f m ds rest place n count x words map bytes elems labels) (sym (to-end l k)) h
 
 -- the places of a vector's elements are small numbers: the lent list is longer
 pub going-place : (r : Rooms) (f : ℕ) (m : Making) (ds : Data) (rest : List ℕ) (place n : ℕ) (datum : List ℕ) (at known i : ℕ) (words map bytes elems labels : List ℕ) → Going r f m ds rest place n datum at known i words map bytes elems labels → place + n ≤ length elems

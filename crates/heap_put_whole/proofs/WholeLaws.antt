@@ -2,25 +2,26 @@
 -- to the rules' put call. Assumes nothing.
 use mathlib.Core.Path.{_≡_, refl, sym, ap, _∙_, subst}
 use mathlib.Core.Bool.{Bool, true, false, not}
-use mathlib.Core.List.{List, [], _∷_, _++_, append-nil}
+use mathlib.Core.List.{List, [], _∷_, append-nil}
 use mathlib.Core.Option.{Option, none, some}
-use Prim.Native.Nat.{ℕ, _+_, _-_, _*_, _/_, _≤_, _<_}
+use Prim.Native.Nat.{ℕ, _+_, _-_, _/_, _≤_, _<_}
 use native.Mathlib.Omega.{arith}
 use borrow.Author.Tests.{lt-ltb, ltb-false, leb-true}
 use lib.Dec.{leb, ltb}
 use lib.ListN.{length, getD}
-use Rattle.laws.specs.Basics.{both, every, join, distinct, zeros, basics}
+use Rattle.laws.specs.Basics.{every, join, distinct, zeros, basics}
 use Rattle.laws.proofs.Tests.{both-left, both-right}
 use Rattle.laws.proofs.Pointwise.{all-every}
+use Rattle.laws.proofs.Options.{some-value}
 use Rattle.rules.specs.Numbers.{most-labels}
 use Rattle.rules.specs.Refusals.{Refusal, accepted, refused, malformed, over-limit, early-label, no-slots, no-room, Test, _⇒_, unless, refusals}
 use Rattle.rules.specs.Nodes.{nodes-rules}
 use Rattle.rules.specs.Datum.{Datum, nodes, node-within, label-of, encode, Parse, good, bad, parse, datum-fits, within-limits, early-reference, datum-rules}
 use Rattle.rules.specs.Heap.{Heap, Entry, capacity, in-use, used-count, free-count, fitting, most-growths}
-use Rattle.rules.specs.Layout.{Lent, Rooms, rooms-of, heap-of, lent-of, entry-at, words-of, filled, layout-rules}
+use Rattle.rules.specs.Layout.{Lent, Rooms, rooms-of, heap-of, lent-of, entry-at, layout-rules}
 use Rattle.rules.specs.Put.{Making, making, put-datum, in-slot, slot-in, slots-short, room-short, put-rules}
-use Rattle.rules.specs.Sound.{Sound, sound, sound-rules}
-use Rattle.rules.specs.Calls.{Left, left, cleared, put-tree, call-rules}
+use Rattle.rules.specs.Sound.{Sound, sound-rules}
+use Rattle.rules.specs.Calls.{Left, left, cleared, put-tree}
 use Rattle.rules.proofs.LentLaws.{Fits}
 use Rattle.rules.proofs.Growth.{fitting-least, reached-whole}
 use Rattle.rules.proofs.Good.{Good, used-slot, chunk-positive, free-most, table-used}
@@ -243,16 +244,13 @@ module _ (l : Lent) (scratch : List ℕ) (k : Ready l scratch) where
 -- ---- a datum that did not pass
 
 module _ (l : Lent) (scratch datum : List ℕ) (c : Checked) (is : checked-of c ≡ verdict datum) where
-  some-same : {a b : Refusal} → _≡_ {A = Option Refusal} (some a) (some b) → a ≡ b
-  some-same {a} {b} p = ap (λ (o : Option Refusal). elim o [ none ↦ a | some x ↦ x ]) p
-
   abbrev refuse : Refusal → Left ℕ
   refuse e = left (refused e) l (cleared scratch)
 
   limited : (e : Refusal) (w y : Bool) (ts : List Test) (x : Left ℕ) → limits w y ≡ some e → refuse e ≡ unless ((not w ⇒ over-limit) ∷ (y ⇒ early-label) ∷ ts) x refuse
   unfolding limits refusals
-  limited e false y ts x z = ap refuse (sym (some-same z))
-  limited e true true ts x z = ap refuse (sym (some-same z))
+  limited e false y ts x z = ap refuse (sym (some-value z))
+  limited e true true ts x z = ap refuse (sym (some-value z))
   limited e true false ts x z = let n : _≡_ {A = ℕ} 0 1 = cc in absurd (omega arith)
 
   by-tree : (e : Refusal) (t : Datum) → limits (within-limits t) (early-reference t) ≡ some e → refuse e ≡ put-tree l scratch (heap-of l) t
@@ -275,7 +273,7 @@ module _ (l : Lent) (scratch datum : List ℕ) (c : Checked) (is : checked-of c 
     where
       go : (p : Parse) → _≡_ {A = Option Refusal} (elim p [ good t ↦ limits (within-limits t) (early-reference t) | bad f n ↦ some (malformed f n) ]) (some e) → refuse e ≡ elim p as (λ p. Left ℕ) [ good t ↦ put-tree l scratch (heap-of l) t | bad f n ↦ refuse (malformed f n) ]
       go (good t) z = by-tree e t z
-      go (bad f n) z = ap refuse (sym (some-same z))
+      go (bad f n) z = ap refuse (sym (some-value z))
 
   -- a datum that passed
   pub passed : ((i : ℕ) → getD datum i 0 < 256) → c ≡ check.Good → Accepted datum

@@ -4,14 +4,14 @@ use mathlib.Core.Path.{_≡_, refl, sym, ap, _∙_, subst}
 use mathlib.Core.Bool.{Bool, true, false}
 use mathlib.Core.List.{List, [], _∷_, _++_}
 use mathlib.Core.Option.{Option, none, some}
-use Prim.Native.Nat.{ℕ, _+_, _*_, _/_, _%_, _≤_, _<_}
+use Prim.Native.Nat.{ℕ, _*_, _/_, _%_, _≤_, _<_}
 use native.Mathlib.Omega.{arith}
 use borrow.Author.Tests.{le-leb, lt-leb, lt-ltb, le-ltb, ne-eqb}
 use lib.Dec.{eqb, ltb}
 use lib.ListN.{length, getD, drop}
 use lib.Seq.{sets-eq}
 use Rattle.laws.specs.Basics.{choose, member, zeros, basics}
-use Rattle.laws.proofs.Lists.{getD-zeros, length-zeros}
+use Rattle.laws.proofs.Lists.{getD-zeros, length-zeros, no-elements}
 use Rattle.rules.specs.Numbers.{most-nodes, most-labels, scratch-words}
 use Rattle.rules.specs.Refusals.{Answer, accepted, refused, Refusal, over-limit, no-such-slot, short-output, unless, _⇒_, refusals}
 use Rattle.rules.specs.Cells.{Value, slot, scalar}
@@ -23,6 +23,7 @@ use Rattle.rules.specs.Calls.{Read-left, cleared, value-in-use, read-value, cal
 use Rattle.rules.specs.Read.{Built, labels-for, build, reading-of, reading}
 use Rattle.rules.proofs.SoundLaws.{clauses, bounds, sound-fits, lists-again}
 use Rattle.rules.proofs.GoodSound.{sound-good}
+use Rattle.rules.proofs.StoreSound.{named-value}
 use Rattle.leaf_cells.specs.Words.{stored}
 use Rattle.leaf_write.specs.declared.Page.{Page}
 use Rattle.heap_walk.specs.Walks.{whole-walk}
@@ -89,13 +90,9 @@ module _ (h : Heap) (v : Value) where
 
 -- ---- the two passes
 
-pub empty : (l : List ℕ) → length l ≡ 0 → l ≡ []
-empty [] e = refl
-empty (x ∷ l) e = absurd (omega arith)
-
 -- a part of no bytes, put back before the rest
 pub none-before : (part l : List ℕ) → length part ≡ 0 → part ++ l ≡ l
-none-before part l e = ap (λ (x : List ℕ). x ++ l) (empty part e)
+none-before part l e = ap (λ (x : List ℕ). x ++ l) (no-elements part e)
 
 module _ (r : Rooms) (h : Heap) (v : Value) (words bytes elems marks out : List ℕ) (t : MarkedTask r h v words bytes elems marks) where
   pub count-task : ValueTask r h (labels-for h v) v words bytes elems marks
@@ -278,11 +275,6 @@ module _ (h : Heap) (scratch out : List ℕ) where
 
 -- ---- from lent lists that are sound, for the door
 
-used-named : (h : Heap) (v : Value) → value-in-use h v ≡ true → value-named h v ≡ true
-unfolding call-rules sound-rules
-used-named h (slot s) e = e
-used-named h (scalar x) e = refl
-
 pub sound-held : (l : Lent) → sound l ≡ true → (v : Value) → value-in-use (heap-of l) v ≡ true → (n : ℕ) → scratch-words (capacity (heap-of l)) ≤ n → Held (rooms-of l) (heap-of l) v n (l .words) (l .bytes) (l .elems)
 unfolding layout-rules
 sound-held l e v used n room =
@@ -301,6 +293,6 @@ sound-held l e v used n room =
             elems-are = ap (λ (x : Lent). x .elems) (sym again);
           };
       bytes-are = ap (λ (x : Lent). x .bytes) (sym again);
-      named = used-named (heap-of l) v used;
+      named = named-value (heap-of l) v used;
       room = omega (arith, room);
     }

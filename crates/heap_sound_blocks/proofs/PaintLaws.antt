@@ -3,20 +3,21 @@ use mathlib.Core.Path.{_≡_, refl, sym, ap, _∙_, subst}
 use mathlib.Core.Bool.{Bool, true, false, not}
 use mathlib.Core.List.{List}
 use mathlib.Core.Logic.{_⊎_, inl, inr, ⊎-elim}
-use Prim.Native.Nat.{ℕ, zero, suc, _+_, _-_, _*_, _≤_, _<_}
+use Prim.Native.Nat.{ℕ, _+_, _-_, _*_, _≤_, _<_}
 use native.Mathlib.Decide.{ℕ-discrete, decLt}
 use native.Mathlib.Omega.{arith}
-use borrow.Author.Tests.{eqb-true, eq-eqb, ne-eqb, leb-true, le-leb, lt-leb, ltb-true, lt-ltb, le-ltb}
-use lib.Dec.{eqb, leb, ltb}
-use lib.ListN.{length, getD, set, length-set}
+use borrow.Author.Tests.{eqb-true, eq-eqb, ne-eqb, leb-true, le-leb, lt-leb}
+use lib.Dec.{eqb, leb}
+use lib.ListN.{length, getD, set}
 use lib.Seq.{getD-set-same, getD-set-other}
-use Rattle.laws.specs.Basics.{choose, both, either, between}
+use Rattle.laws.specs.Basics.{choose, either, between}
 use Rattle.laws.proofs.Tests.{true≢false, both-left, both-right, both-true, either-cases, either-left, either-right}
-use Rattle.laws.proofs.Checks.{refuted, pass, fail}
+use Rattle.laws.proofs.Checks.{pass, fail}
+use Rattle.laws.proofs.Variants.{positive}
 use Rattle.rules.specs.Cells.{Block, block, same-block}
 use Rattle.rules.specs.Sound.{lies-in, same-or-disjoint}
 use Rattle.heap_sound_rows.specs.Rows.{word}
-use Rattle.heap_sound_blocks.specs.Blocks.{shown, Inside, Met, Covered, Apart, Owned, Shared, Painted, Turned, Laid}
+use Rattle.heap_sound_blocks.specs.Blocks.{shown, Inside, Covered, Apart, Owned, Shared, Painted, Turned}
 
 -- ---- the block that a row shows
 
@@ -98,13 +99,9 @@ module _ (before : List ℕ) (place mark : ℕ) where
               record {
                 at = place + i;
                 inside = record { from = omega arith; to = omega arith };
-                painted = pos (getD before (place + i) 0) (λ z. d (f .outside (place + i) (λ _. omega arith) ∙ z));
+                painted = positive (getD before (place + i) 0) (λ z. d (f .outside (place + i) (λ _. omega arith) ∙ z));
               };
         }
-      where
-        pos : (n : ℕ) → (n ≡ 0 → ⊥) → 0 < n
-        pos zero d = absurd (d refl)
-        pos (suc n) d = omega arith
 
     pub front-all : (size : ℕ) → i ≡ size → Covered before now place size mark true
     front-all size e =
@@ -157,10 +154,6 @@ inside? b x =
             | no l ↦ inr (λ p. omega (arith, p .to))
           ]
     ]
-
-positive : (n : ℕ) → (n ≡ 0 → ⊥) → 0 < n
-positive zero d = absurd (d refl)
-positive (suc n) d = omega arith
 
 module _ (shows : ℕ → Block) (used i : ℕ) where
   turn-bad : (after : List ℕ) → ((n : ℕ) → i < n → Apart shows used n → ⊥) → Turned shows used i after false

@@ -3,14 +3,14 @@ use mathlib.Core.Path.{_≡_, refl, sym, ap, _∙_, subst}
 use mathlib.Core.Bool.{Bool, true, false, not}
 use mathlib.Core.List.{List}
 use mathlib.Core.Logic.{⊎-elim}
-use Prim.Native.Nat.{ℕ, _+_, _-_, _*_, _≤_, _<_}
+use Prim.Native.Nat.{ℕ, _+_, _*_, _≤_, _<_}
 use native.Mathlib.Omega.{arith}
-use native.Mathlib.Decide.{decLt, ℕ-discrete}
-use borrow.Author.Tests.{eqb-true, eq-eqb, ne-eqb, leb-true, not-true}
-use lib.Dec.{eqb, leb}
-use lib.ListN.{length, getD, replicate, getD-replicate, length-replicate, List·getD-eq-default}
-use Rattle.laws.specs.Basics.{both, either, every-below}
-use Rattle.laws.proofs.Tests.{true≢false, both-left, either-cases, either-left, either-right, below-all, all-below}
+use native.Mathlib.Decide.{decLt}
+use borrow.Author.Tests.{eqb-true, eq-eqb, ne-eqb, not-true}
+use lib.Dec.{eqb}
+use lib.ListN.{getD}
+use Rattle.laws.specs.Basics.{either, every-below}
+use Rattle.laws.proofs.Tests.{true≢false, either-cases, either-left, either-right, below-all, all-below}
 use Rattle.rules.specs.Cells.{Block, block}
 use Rattle.rules.specs.Sound.{lies-in}
 use Rattle.heap_sound_blocks.specs.Blocks.{Apart, Laid}
@@ -105,11 +105,3 @@ text-is bytes b = refl
 pub vector-is : (es m : List ℕ) (capacity : ℕ) (b : Block) → every-below (b .size) (λ k. named capacity m (value-at es (b .place + k))) ≡ vector-good es m capacity b
 unfolding vector-good
 vector-is es m capacity b = refl
-
--- paint that is clear at first
-pub all-clear : (n x : ℕ) → _≡_ {A = ℕ} (getD {A = ℕ} (replicate n 0) x 0) 0
-all-clear n x =
-    elim (decLt x n) [
-      | yes h ↦ getD-replicate n x 0 0 h
-      | no h ↦ List·getD-eq-default {A = ℕ} (replicate n 0) 0 (omega (arith, length-replicate {A = ℕ} n 0))
-    ]

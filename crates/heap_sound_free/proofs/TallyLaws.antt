@@ -1,15 +1,15 @@
 -- How often a number stands among the first n: one more, and marks. Assumes nothing.
 use mathlib.Core.Path.{_≡_, refl, sym, ap, _∙_}
 use mathlib.Core.Bool.{Bool, true, false}
-use mathlib.Core.List.{List, [], _∷_, _++_, map, reverse, map-append, reverse-append}
-use Prim.Native.Nat.{ℕ, zero, suc, _+_, _-_, _*_, _≤_, _<_}
+use mathlib.Core.List.{List, [], _∷_, map, reverse, map-append, reverse-append}
+use Prim.Native.Nat.{ℕ, zero, suc, _+_, _≤_, _<_}
 use native.Mathlib.Nat.{zero-add}
 use native.Mathlib.Numerals.{add-one}
 use native.Mathlib.Decide.{ℕ-discrete, decLt}
 use native.Mathlib.Omega.{arith}
 use borrow.Author.Tests.{eqb-true, eq-eqb, ne-eqb, ltb-true, lt-ltb, le-ltb}
 use lib.Dec.{eqb, ltb}
-use lib.ListN.{length, getD, set, replicate, getD-replicate, length-replicate, List·getD-eq-default}
+use lib.ListN.{length, getD, set}
 use lib.Seq.{getD-set-same, getD-set-other}
 use Rattle.laws.specs.Basics.{choose, both, every, every-below, count, rising, basics}
 use Rattle.laws.proofs.Tests.{both-left, both-right, both-true, below-all, all-below, true≢false}
@@ -133,12 +133,3 @@ module _ (f : ℕ → ℕ) (n capacity i : ℕ) (h : i < n) where
 
 pub column-ends : (f : ℕ → ℕ) (n capacity i : ℕ) → n ≤ i → ((j : ℕ) → j < i → new-at f capacity j ≡ true) → true ≡ every-below n (new-at f capacity)
 column-ends f n capacity i h p = sym (all-below _ n (λ j l. p j (omega arith)))
-
--- ---- a new array
-
-pub all-zero : (n s : ℕ) → _≡_ {A = ℕ} (getD {A = ℕ} (replicate n 0) s 0) 0
-all-zero n s =
-    elim (decLt s n) [
-      | yes h ↦ getD-replicate n s 0 0 h
-      | no h ↦ List·getD-eq-default {A = ℕ} (replicate n 0) 0 (omega (arith, length-replicate {A = ℕ} n 0))
-    ]

@@ -1,21 +1,20 @@
 -- A symbol, found or made. Assumes nothing.
 use mathlib.Core.Path.{_≡_, refl, sym, ap, _∙_, subst, subst₂}
-use mathlib.Core.List.{List, [], _∷_, _++_}
+use mathlib.Core.List.{List, []}
 use mathlib.Core.Option.{Option, none, some}
 use Prim.Native.Nat.{ℕ, _+_, _*_, _≤_, _<_}
 use native.Mathlib.Omega.{arith}
 use lib.ListN.{length}
-use Rattle.rules.specs.Cells.{Value, slot, Cell, symbol, block}
-use Rattle.rules.specs.Heap.{Heap, Entry, alloc, found, with-cell, with-bytes, with-entry, block-after, heap-rules}
-use Rattle.rules.specs.Layout.{words-of, map-bytes, filled}
-use Rattle.rules.specs.Put.{Making, Put, making, put-as, new-cell, make-symbol, put-symbol, put-rules}
-use Rattle.rules.proofs.LentLaws.{words-length}
+use Rattle.laws.proofs.Options.{none-some}
+use Rattle.rules.specs.Cells.{slot, symbol, block}
+use Rattle.rules.specs.Heap.{Heap, Entry, alloc, found, with-cell, with-bytes, block-after}
+use Rattle.rules.specs.Put.{Put, making, put-as, make-symbol, put-symbol, put-rules}
 use Rattle.leaf_cells.specs.Rooms.{Appended}
 use Rattle.leaf_symbols.specs.Table.{Tabled, bytes-used, count-of, entry, added, found-in, slot-of, shown-found}
 use Rattle.leaf_symbols.specs.declared.Found.{Found}
 use Rattle.leaf_symbols.specs.declared.Found.the-variants.{At, Missing}
-use Rattle.leaf_symbols.proofs.TableLaws.{TableFits, tabled, bytes-within, found-is, row-left, added-is}
-use Rattle.heap_steps.specs.Steps.{Open, CellMade, TextOpen, Left, SymbolOpen, SymbolMade, SymbolReady, SymbolPut}
+use Rattle.leaf_symbols.proofs.TableLaws.{tabled, bytes-within, found-is, row-left, added-is}
+use Rattle.heap_steps.specs.Steps.{CellMade, Left, SymbolOpen, SymbolMade, SymbolReady, SymbolPut}
 use Rattle.heap_steps.proofs.Sizes.{alloc-taken}
 use Rattle.heap_steps.proofs.CellSteps.{sized-of, growing-bytes, shows-text}
 
@@ -77,9 +76,6 @@ module _ (n room : ℕ) (h : Heap) (name : List ℕ) (scope : ℕ) (words map by
       go : (x : Option Entry) → none ≡ slot-of x → x ≡ none
       go none q = refl
       go (some y) q = absurd (none-some q)
-        where
-          none-some : {A : Type 0} {a : A} → none ≡ some a → ⊥
-          none-some e = let z : _≡_ {A = ℕ} 0 1 = cc in omega arith
 
   put-by : Option Entry → Put
   put-by x = elim x [ none ↦ make-symbol name scope (making h []) | some e ↦ put-as (slot (e .slot)) (making h []) ]
@@ -101,10 +97,7 @@ module _ (n room : ℕ) (h : Heap) (name : List ℕ) (scope : ℕ) (words map by
   was-found s e = go (found h name scope) refl (is-found (At s) e)
     where
       go : (x : Option Entry) → found h name scope ≡ x → some s ≡ slot-of x → SymbolPut n room h name scope s words map bytes
-      go none q p = absurd (some-none p)
-        where
-          some-none : {A : Type 0} {a : A} → some a ≡ none → ⊥
-          some-none e = let z : _≡_ {A = ℕ} 0 1 = cc in omega arith
+      go none q p = absurd (none-some (sym p))
       go (some y) q p =
           let k : put-symbol name scope (making h []) ≡ put-as (slot (y .slot)) (making h []) = ap put-by q in
           let same : s ≡ y .slot = cc in

@@ -3,7 +3,6 @@
 use mathlib.Core.Path.{_≡_, refl, sym, ap, _∙_}
 use mathlib.Core.Bool.{Bool, true, false}
 use mathlib.Core.List.{List, _∷_}
-use mathlib.Core.Logic.{_⊎_, ⊎-elim}
 use mathlib.Core.Option.{Option, none, some}
 use Prim.Native.Nat.{ℕ, _+_, _*_, _^_, _≤_, _<_}
 use native.Mathlib.Omega.{arith}
@@ -35,31 +34,6 @@ use Rattle.heap_sound_rows.proofs.HeapFacts.{cells-length, elements-length}
 use Rattle.heap_store.specs.Stores.{Ready, store-cell}
 
 -- ---- cells by their case
-
--- a variant that is not the one named has another number
-pub not-eight : (x : ℕ) → (x ≡ 0) ⊎ ((x ≡ 1) ⊎ ((x ≡ 2) ⊎ ((x ≡ 3) ⊎ ((x ≡ 4) ⊎ ((x ≡ 5) ⊎ ((x ≡ 6) ⊎ ((x ≡ 7) ⊎ ((x ≡ 9) ⊎ (x ≡ 10))))))))) → x ≡ 8 → ⊥
-not-eight x o e =
-    let off : (k : ℕ) → (k ≡ 8 → ⊥) → x ≡ k → ⊥ = λ k ne p. ne (omega arith) in
-    ⊎-elim (off 0 (λ q. omega arith))
-    (⊎-elim (off 1 (λ q. omega arith))
-    (⊎-elim (off 2 (λ q. omega arith))
-    (⊎-elim (off 3 (λ q. omega arith))
-    (⊎-elim (off 4 (λ q. omega arith))
-    (⊎-elim (off 5 (λ q. omega arith))
-    (⊎-elim (off 6 (λ q. omega arith)) (⊎-elim (off 7 (λ q. omega arith)) (⊎-elim (off 9 (λ q. omega arith)) (off 10 (λ q. omega arith))))))))))
-    o
-
-pub not-ten : (x : ℕ) → (x ≡ 0) ⊎ ((x ≡ 1) ⊎ ((x ≡ 2) ⊎ ((x ≡ 3) ⊎ ((x ≡ 4) ⊎ ((x ≡ 5) ⊎ ((x ≡ 6) ⊎ ((x ≡ 7) ⊎ ((x ≡ 8) ⊎ (x ≡ 9))))))))) → x ≡ 10 → ⊥
-not-ten x o e =
-    let off : (k : ℕ) → k < 10 → x ≡ k → ⊥ = λ k small p. omega arith in
-    ⊎-elim (off 0 (omega arith))
-    (⊎-elim (off 1 (omega arith))
-    (⊎-elim (off 2 (omega arith))
-    (⊎-elim (off 3 (omega arith))
-    (⊎-elim (off 4 (omega arith))
-    (⊎-elim (off 5 (omega arith))
-    (⊎-elim (off 6 (omega arith)) (⊎-elim (off 7 (omega arith)) (⊎-elim (off 8 (omega arith)) (off 9 (omega arith))))))))))
-    o
 
 pub no-symbol : (c : VCell) → ((p n : ℕ) → c ≡ vcell.Symbol p n → ⊥) → false ≡ is-symbol (cell-of c)
 no-symbol vcell.Undefined y = refl

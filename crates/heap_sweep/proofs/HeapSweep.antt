@@ -7,13 +7,13 @@ use Prim.Native.Nat.{ℕ, zero, suc, _+_, _-_, _/_, _≤_, _<_}
 use native.Mathlib.Omega.{arith}
 use native.Mathlib.Decide.{ℕ-discrete, decLt}
 use borrow.Author.Tests.{eq-eqb, ne-eqb, eqb-true}
-use lib.Dec.{eqb}
 use lib.ListN.{length, length-append, length-set}
 use Rattle.laws.specs.Basics.{choose, both, member, count, keep, rising, basics}
 use Rattle.laws.proofs.Tests.{true≢false}
 use Rattle.laws.proofs.Lists.{count-rising-in}
 use Rattle.laws.proofs.Stores.{getD-before-zeros}
 use Rattle.laws.proofs.Pointwise.{count-here, count-other, count-append, count-rising-past, past-count}
+use Rattle.laws.proofs.Members.{count-keep}
 use Rattle.rules.specs.Map.{Free, Allocated, Used, state-of, set-state, is-allocated, map-rules}
 use Rattle.rules.specs.Cells.{undefined, plain}
 use Rattle.rules.specs.Heap.{Heap, capacity}
@@ -223,14 +223,6 @@ module _ (n room : ℕ) (ms : List ℕ) where
 -- ---- what marking leaves
 
 -- numbers that a test keeps stand no more often, and those that it does not keep not at all
-count-kept : (f : ℕ → Bool) (t : ℕ) (l : List ℕ) → count t (keep f l) ≤ count t l
-unfolding basics
-count-kept f t [] = omega arith
-count-kept f t (x ∷ l) = by (f x) (count-kept f t l)
-  where
-    by : (b : Bool) → count t (keep f l) ≤ count t l → count t (choose b (x ∷ keep f l) (keep f l)) ≤ choose (eqb t x) 1 0 + count t l
-    by true i = omega arith
-    by false i = omega arith
 
 count-dropped : (f : ℕ → Bool) (t : ℕ) → f t ≡ false → (l : List ℕ) → count t (keep f l) ≡ 0
 unfolding basics
@@ -261,7 +253,7 @@ module _ (n room : ℕ) (ms : List ℕ) (h : Heap) (m : List ℕ) (w : Between n
             arith,
             count-append t (h .free) (keep (is-allocated m) (rising 0 (capacity h))),
             doomed-listed t k e,
-            count-kept (is-allocated m) t (rising 0 (capacity h)),
+            count-keep (is-allocated m) t (rising 0 (capacity h)),
             count-rising-in 0 (capacity h) t (omega arith) (omega arith),
           )
       by false e =
@@ -284,7 +276,7 @@ module _ (n room : ℕ) (ms : List ℕ) (h : Heap) (m : List ℕ) (w : Between n
               arith,
               count-append t (h .free) (keep (is-allocated m) (rising 0 (capacity h))),
               w .listed .past t k,
-              count-kept (is-allocated m) t (rising 0 (capacity h)),
+              count-keep (is-allocated m) t (rising 0 (capacity h)),
               count-rising-past 0 (capacity h) t (omega arith),
             )))
             both-once,

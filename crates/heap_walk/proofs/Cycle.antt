@@ -12,6 +12,7 @@ use lib.Seq.{drop-cons}
 use Rattle.laws.specs.Basics.{both, join, zeros, basics}
 use Rattle.laws.proofs.Tests.{both-left, both-right}
 use Rattle.laws.proofs.Pointwise.{every-all, getD-part, length-part}
+use Rattle.laws.proofs.Members.{first-member}
 use Rattle.rules.specs.Cells.{undefined, slot, scalar, block, Cell, pair, vector}
 use Rattle.rules.specs.Cells as cells
 use Rattle.rules.specs.Heap.{Heap, capacity, cell-at, in-use, elements-of}
@@ -31,7 +32,7 @@ use Rattle.leaf_cells.proofs.HeapLaws.{loaded-is, loaded-element-is}
 use Rattle.heap_walk.specs.Walks.{has-parts, walk-parts, fresh-walk, whole-walk}
 use Rattle.heap_walk.specs.Marks.{mark, label-word, state-word, Marked, MetAgain}
 use Rattle.heap_walk.specs.Tasks.{Stands, Job, Ready, Task, Done, PartsTask, PartsDone, ElementsTask, ElementsDone, ElementTask, ElementDone, LabelTask, LabelDone}
-use Rattle.heap_walk.proofs.WalkLaws.{walk-into, walk-off, walk-scalar, no-parts-walk, enter-new, Onward, kept-after, kept-meet, labels-few, elements-named, walk-onward, walked-parts, member-first}
+use Rattle.heap_walk.proofs.WalkLaws.{walk-into, walk-off, walk-scalar, no-parts-walk, enter-new, Onward, kept-after, kept-meet, labels-few, elements-named, walk-onward, walked-parts}
 use Rattle.heap_walk.proofs.MarkLaws.{Fresh, fresh, entered, again, left, on-path}
 
 -- the same heap and path, further on
@@ -166,7 +167,7 @@ module _ (j : Job) (s n known : ℕ) (words elems marks : List ℕ) (t : Task j 
                   subst (λ (x : Walk). Marked (j .path) x r (set after s (getD after s 0 - 1)))
                   (sym (stepped ∙ enter-new (j .path) s (walk-parts (n - 1) h (s ∷ j .path) (cell-at h s)) (j .so-far) (is-fresh .off-path) (is-fresh .not-met)))
                   (left (j .path) w′ s r after (d .marked) (omega (arith, slot-mark, size, length-set marks s 2)) (is-fresh .off-path)
-                  (o .met-kept s (member-first s (j .so-far .met))));
+                  (o .met-kept s (first-member s (j .so-far .met))));
             }
 
 -- ---- what a cell holds

@@ -12,7 +12,7 @@ use lib.ListN.{length, getD, set, length-append}
 use lib.Seq.{getD-set-same, getD-set-other}
 use Rattle.laws.specs.Basics.{choose, either, member, basics}
 use Rattle.laws.proofs.Tests.{true≢false}
-use Rattle.laws.proofs.Members.{member-end}
+use Rattle.laws.proofs.Members.{member-end, member-other, first-member}
 use Rattle.rules.specs.Read.{Walk, meet, give-label, enter, place-in}
 use Rattle.rules.specs.Heap.{Heap}
 use Rattle.heap_walk.specs.Marks.{label-word, state-word, mark, Marked, MetAgain}
@@ -76,14 +76,6 @@ state-new : (path met : List ℕ) (s : ℕ) → member s path ≡ false → memb
 unfolding state-word
 state-new path met s e m = ap (λ (b : Bool). choose b 2 (choose (member s met) 1 0)) e ∙ ap (λ (b : Bool). choose b 1 0) m
 
-pub member-other : (x s : ℕ) (l : List ℕ) → (x ≡ s → ⊥) → member x (s ∷ l) ≡ member x l
-unfolding basics
-member-other x s l d = ap (λ (b : Bool). either b (member x l)) (ne-eqb x s d)
-
-pub member-self : (s : ℕ) (l : List ℕ) → member s (s ∷ l) ≡ true
-unfolding basics
-member-self s l = ap (λ (b : Bool). either b (member s l)) (eq-eqb s s refl)
-
 labelled : (s : ℕ) (w : Walk) (b : Bool) → member s (w .labels) ≡ b → give-label s w ≡ record { met = w .met; labels = choose b (w .labels) (w .labels ++ (s ∷ [])) }
 unfolding give-label
 labelled s w b e = ap {B = Walk} (λ (b : Bool). record { met = w .met; labels = choose b (w .labels) (w .labels ++ (s ∷ [])) }) e
@@ -136,7 +128,7 @@ module _ (h : Heap) (path : List ℕ) (w : Walk) (k : Kept h path w) (s : ℕ) w
             omega (
               arith,
               ap (λ (y : ℕ). label-word (w .labels) y) e ∙ label-none (w .labels) s (unlabelled (f .not-met)),
-              ap (λ (y : ℕ). state-word (s ∷ path) (s ∷ w .met) y) e ∙ state-path (s ∷ path) (s ∷ w .met) s (member-self s path),
+              ap (λ (y : ℕ). state-word (s ∷ path) (s ∷ w .met) y) e ∙ state-path (s ∷ path) (s ∷ w .met) s (first-member s path),
             )
 
     -- a slot that was met is met again
@@ -227,14 +219,14 @@ left path w s known marks m small off met =
         omega (
           arith,
           m .marks-are s,
-          state-path (s ∷ path) (w .met) s (member-self s path),
+          state-path (s ∷ path) (w .met) s (first-member s path),
           state-met path (w .met) s off met,
         )
 
 -- the mark of a slot on the path can be lowered
 pub on-path : (path : List ℕ) (w : Walk) (s known : ℕ) (marks : List ℕ) → Marked (s ∷ path) w known marks → 2 ≤ getD marks s 0
 unfolding mark
-on-path path w s known marks m = omega (arith, m .marks-are s, state-path (s ∷ path) (w .met) s (member-self s path))
+on-path path w s known marks m = omega (arith, m .marks-are s, state-path (s ∷ path) (w .met) s (first-member s path))
 
 -- ---- what the code does with a slot that was met
 

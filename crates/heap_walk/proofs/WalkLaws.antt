@@ -7,12 +7,12 @@ use mathlib.Core.Logic.{⊎-elim}
 use Prim.Native.Nat.{ℕ, zero, suc, _+_, _≤_, _<_}
 use native.Mathlib.Omega.{arith}
 use native.Mathlib.Decide.{ℕ-discrete}
-use borrow.Author.Tests.{eqb-true, eq-eqb, leb-true, lt-ltb}
+use borrow.Author.Tests.{eqb-true, leb-true, lt-ltb}
 use lib.Dec.{eqb, leb, ltb}
 use lib.ListN.{length}
-use Rattle.laws.specs.Basics.{choose, either, every, member, count, basics}
+use Rattle.laws.specs.Basics.{choose, every, member, count, basics}
 use Rattle.laws.proofs.Tests.{true≢false, both-left, both-right, both-true, either-cases, either-left, either-right, every-append}
-use Rattle.laws.proofs.Members.{member-end}
+use Rattle.laws.proofs.Members.{member-end, no-member, later-member}
 use Rattle.laws.proofs.Pointwise.{all-every, count-here, count-other, count-append, getD-part, length-part}
 use Rattle.rules.specs.Cells.{undefined, Value, slot, scalar, Block, Cell, plain, pair, symbol, string, vector}
 use Rattle.rules.specs.Heap.{Heap, capacity, cell-at, in-use, elements-of}
@@ -84,15 +84,6 @@ pub record Onward (h : Heap) (before after : Walk) : Type 0 where
   pub below : every (λ s. ltb s (capacity h)) (after .labels) ≡ true
   pub once : (s : ℕ) → count s (after .labels) ≤ 1
 
-count-none : (s : ℕ) (l : List ℕ) → member s l ≡ false → count s l ≡ 0
-unfolding basics
-count-none s [] e = refl
-count-none s (x ∷ l) e = go (eqb s x) refl (λ p. count-none s l p) e
-  where
-    go : (b : Bool) → eqb s x ≡ b → (member s l ≡ false → count s l ≡ 0) → either b (member s l) ≡ false → count s (x ∷ l) ≡ 0
-    go true q again e = absurd (true≢false e)
-    go false q again e = omega (arith, count-other s x l (borrow.Author.Tests.eqb-false s x q), again e)
-
 count-empty : (s : ℕ) → count s [] ≡ 0
 unfolding basics
 count-empty s = refl
@@ -100,14 +91,6 @@ count-empty s = refl
 single : (f : ℕ → Bool) (s : ℕ) → f s ≡ true → every f (s ∷ []) ≡ true
 unfolding basics
 single f s e = both-true e refl
-
-member-here : (x : ℕ) (s : ℕ) (l : List ℕ) → member x l ≡ true → member x (s ∷ l) ≡ true
-unfolding basics
-member-here x s l e = either-right (eqb x s) e
-
-pub member-first : (s : ℕ) (l : List ℕ) → member s (s ∷ l) ≡ true
-unfolding basics
-member-first s l = either-left (member s l) (eq-eqb s s refl)
 
 module _ (h : Heap) where
   pub kept-after : {path : List ℕ} {w after : Walk} → Kept h path w → Onward h w after → Kept h path after
@@ -145,8 +128,8 @@ module _ (h : Heap) where
     pub onward-meet : Onward h w (meet s w)
     onward-meet =
         record {
-          met-kept = λ x e. member-here x s (w .met) e;
-          labels-met = λ x e. member-here x s (w .met) (k .labels-met x e);
+          met-kept = λ x e. later-member x s (w .met) e;
+          labels-met = λ x e. later-member x s (w .met) (k .labels-met x e);
           below = k .below;
           once = k .once;
         }
@@ -172,7 +155,7 @@ module _ (h : Heap) where
                         omega (
                           arith,
                           count-append x (w .labels) (s ∷ []),
-                          ap (λ (y : ℕ). count y (w .labels)) q ∙ count-none s (w .labels) e,
+                          ap (λ (y : ℕ). count y (w .labels)) q ∙ no-member s (w .labels) e,
                           count-here x s [] q,
                           count-empty x,
                         )

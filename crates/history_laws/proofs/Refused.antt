@@ -9,12 +9,14 @@ use Rattle.rules.specs.Nodes.{bytes, nodes-rules}
 use Rattle.rules.specs.Layout.{Lent, heap-of}
 use Rattle.rules.specs.Sound.{setup-numbers}
 use Rattle.rules.specs.Calls as Calls
-use Rattle.rules.specs.Calls.{Stored, put-call, of-answer}
+use Rattle.rules.specs.Calls.{Stored, put-call, collect-call, of-answer}
 use Rattle.rules.proofs.SoundLaws.{setup-refuses, setup-accepts}
 use Rattle.rules.proofs.PutSound as PutSound
 use Rattle.rules.proofs.PutSound.{Put-left, put-left}
 use Rattle.rules.proofs.StoreSound as StoreSound
-use Rattle.rules.proofs.StoreSound.{Store-left, cell-store-left, element-store-left, collect-refused}
+use Rattle.rules.proofs.StoreSound.{Store-left, cell-store-left, element-store-left}
+use Rattle.collect_laws.proofs.CollectSound as CollectSound
+use Rattle.collect_laws.proofs.CollectSound.{Collect-left, collect-left}
 use Rattle.history_laws.specs.Taken.{slots-taken}
 use Rattle.history_laws.specs.Histories as Histories
 use Rattle.history_laws.specs.Histories.{Call, Slots, no-slots, with-slots, reached-of, Moment, moment, lists-after, set-after, after, Refuses, setup-refused, put-refused, cell-store-refused, element-store-refused}
@@ -35,6 +37,13 @@ put-same l scratch datum b r e = by (put-left l scratch datum b)
     by (PutSound.accepts d a) = absurd (not-refused (sym e ∙ a .answer))
     by (PutSound.refuses q a same) = same
 
+collect-same : (l : Lent) (scratch roots : List ℕ) (r : Refusal) → collect-call l scratch roots .answer ≡ refused r → collect-call l scratch roots .lent ≡ l
+collect-same l scratch roots r e = by (collect-left l scratch roots)
+  where
+    by : Collect-left l roots (collect-call l scratch roots) → collect-call l scratch roots .lent ≡ l
+    by (CollectSound.accepts a) = absurd (not-refused (sym e ∙ a .answer))
+    by (CollectSound.refuses q a same) = same
+
 store-same : (l : Lent) (x : Stored) → Store-left l x → (r : Refusal) → x .answer ≡ refused r → x .lent ≡ l
 store-same l x (StoreSound.accepts h a y k z) r e = absurd (not-refused (sym e ∙ a))
 store-same l x (StoreSound.refuses q a same) r e = same
@@ -43,7 +52,7 @@ lists-same : (l : Lent) (c : Call) → Refuses l c → lists-after c l ≡ l
 unfolding lists-after
 lists-same l c (setup-refused {chunk} r e) = setup-same chunk l r e
 lists-same l c (put-refused {scratch} {datum} {b} r e) = put-same l scratch datum b r e
-lists-same l c (Histories.collect-refused {scratch} {roots} r e) = collect-refused l scratch roots r e
+lists-same l c (Histories.collect-refused {scratch} {roots} r e) = collect-same l scratch roots r e
 lists-same l c (cell-store-refused {s} {kind} {a} {b} r e) = store-same l (Calls.cell-store l s kind a b) (cell-store-left l s kind a b) r e
 lists-same l c (element-store-refused {s} {i} {kind} {a} r e) = store-same l (Calls.element-store l s i kind a) (element-store-left l s i kind a) r e
 

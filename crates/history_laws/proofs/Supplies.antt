@@ -12,13 +12,13 @@ use lib.Dec.{ltb}
 use lib.ListN.{length, replicate, length-append, length-replicate}
 use Rattle.laws.specs.Basics.{both, count, member, rising, zeros, basics}
 use Rattle.laws.proofs.Tests.{true≢false}
+use Rattle.laws.proofs.Members.{member-cases, first-member, later-member}
 use Rattle.laws.proofs.Pointwise.{count-here, count-other}
 use Rattle.rules.specs.Map.{is-allocated, set-state, Allocated}
 use Rattle.rules.specs.Cells.{undefined, plain}
 use Rattle.rules.specs.Heap.{Heap, capacity, in-use, used-count, grown, grow, alloc, heap-rules}
 use Rattle.rules.proofs.Good.{Good}
 use Rattle.rules.proofs.Allocate.{pop-by, prepared-by, took}
-use Rattle.collect_laws.proofs.Reach.{member-cases, first-member, later-member}
 use Rattle.history_laws.specs.Taken.{slots-given}
 
 -- ---- the parts that allocation looks at

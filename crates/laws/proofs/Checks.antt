@@ -2,10 +2,10 @@
 -- refused because something follows from it that is false. Assumes nothing.
 use mathlib.Core.Path.{_≡_, refl, sym, ap, _∙_}
 use mathlib.Core.Bool.{Bool, true, false}
-use Prim.Native.Nat.{ℕ, zero, suc, _+_, _-_, _≤_, _<_}
+use Prim.Native.Nat.{ℕ, zero, suc, _-_, _≤_, _<_}
 use native.Mathlib.Omega.{arith}
 use Rattle.laws.specs.Basics.{both, every-below, basics}
-use Rattle.laws.proofs.Tests.{true≢false, below-all, all-below}
+use Rattle.laws.proofs.Tests.{true≢false}
 
 -- a test from which something false follows does not hold
 pub refuted : (b : Bool) → (b ≡ true → ⊥) → false ≡ b

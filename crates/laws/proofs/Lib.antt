@@ -11,3 +11,5 @@ pub mod Finding
 pub mod Members
 pub mod Checks
 pub mod Writing
+pub mod Variants
+pub mod Options

@@ -1,18 +1,34 @@
--- Lists that are written by a rule: zeros, rising numbers, rows of one width. Assumes nothing.
+-- Lists from their other end, and those that are written by a rule: zeros, rising numbers, rows of one width. Assumes nothing.
 use mathlib.Core.Path.{_≡_, refl, sym, ap, _∙_, subst}
-use mathlib.Core.Bool.{Bool, true, false}
-use mathlib.Core.List.{List, [], _∷_, _++_, map, reverse, reverse-reverse}
-use mathlib.Core.Logic.{_≢_}
+use mathlib.Core.List.{List, [], _∷_, _++_, map, reverse, reverse-cons}
 use Prim.Native.Nat.{ℕ, zero, suc, _+_, _-_, _*_, _≤_, _<_}
 use native.Mathlib.Omega.{arith}
-use native.Mathlib.Numerals.{add-one}
 use native.Mathlib.Decide.{ℕ-discrete}
 use borrow.Author.Tests.{eq-eqb, ne-eqb}
-use lib.Dec.{eqb}
-use lib.ListN.{length, getD, take, drop, set, replicate, length-append, length-map, List·getD-append}
-use lib.Seq.{getD-append-add, getD-drop, ext-getD, take-at}
-use Rattle.laws.specs.Basics.{choose, every, join, rising, zeros, count, basics}
-use Rattle.laws.proofs.Tests.{both-true}
+use lib.ListN.{length, getD, take, drop, length-append, length-map, length-reverse, List·getD-append}
+use lib.Seq.{getD-append-add, getD-append-seam, ext-getD, take-nil, drop-nil, take-append-add, drop-append-add}
+use Rattle.laws.specs.Basics.{choose, join, rising, zeros, count, basics}
+
+-- ---- from the other end
+
+pub no-elements : {A : Type 0} (l : List A) → length l ≡ 0 → l ≡ []
+no-elements [] e = refl
+no-elements (x ∷ l) e = absurd (omega arith)
+
+pub last-first : (l : List ℕ) (i : ℕ) → i < length l → getD l i 0 ≡ getD (reverse l) (length l - 1 - i) 0
+last-first [] i h = absurd (omega arith)
+last-first (x ∷ xs) zero h =
+    let e : length (x ∷ xs) - 1 - 0 ≡ length (reverse xs) = omega (arith, length-reverse xs) in
+    sym
+    (ap (λ (n : ℕ). getD (reverse (x ∷ xs)) n 0) e ∙ ap (λ (l : List ℕ). getD l (length (reverse xs)) 0) (reverse-cons x xs)
+    ∙ getD-append-seam (reverse xs) x [] 0)
+last-first (x ∷ xs) (suc i) h =
+    let e : length (x ∷ xs) - 1 - suc i ≡ length xs - 1 - i = omega arith in
+    last-first xs i (omega arith)
+    ∙ sym
+    (ap (λ (n : ℕ). getD (reverse (x ∷ xs)) n 0) e
+    ∙ ap (λ (l : List ℕ). getD l (length xs - 1 - i) 0) (reverse-cons x xs)
+    ∙ List·getD-append (reverse xs) (x ∷ []) 0 (length xs - 1 - i) (omega (arith, length-reverse xs)))
 
 -- ---- zeros
 
@@ -97,3 +113,23 @@ module _ {A : Type 0} (w : ℕ) (f : A → List ℕ) (width : (a : A) → length
     where
       there : w * suc i + k ≡ length (f a) + (w * i + k)
       there = omega (arith, native.Mathlib.Nat.mul-suc w i, width a)
+
+  row-more : (n : ℕ) (a : A) → w * suc n ≡ length (f a) + w * n
+  row-more n a = omega (arith, native.Mathlib.Nat.mul-suc w n, width a)
+
+  -- the first n rows, and those behind them
+  pub take-rows : (n : ℕ) (l : List A) → take (w * n) (join f l) ≡ join f (take n l)
+  unfolding basics
+  take-rows zero l = ap (λ (k : ℕ). take k (join f l)) (native.Mathlib.Nat.mul-zero w)
+  take-rows (suc n) [] = take-nil (w * suc n)
+  take-rows (suc n) (a ∷ l) =
+      ap (λ (k : ℕ). take k (f a ++ join f l)) (row-more n a)
+      ∙ take-append-add (f a) (join f l) (w * n)
+      ∙ ap (λ (r : List ℕ). f a ++ r) (take-rows n l)
+
+  pub drop-rows : (n : ℕ) (l : List A) → drop (w * n) (join f l) ≡ join f (drop n l)
+  unfolding basics
+  drop-rows zero l = ap (λ (k : ℕ). drop k (join f l)) (native.Mathlib.Nat.mul-zero w)
+  drop-rows (suc n) [] = drop-nil (w * suc n)
+  drop-rows (suc n) (a ∷ l) =
+      ap (λ (k : ℕ). drop k (f a ++ join f l)) (row-more n a) ∙ drop-append-add (f a) (join f l) (w * n) ∙ drop-rows n l

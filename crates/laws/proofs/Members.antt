@@ -1,14 +1,16 @@
 -- Members of a list, those that a test keeps, and a list without later copies built from the front. Assumes nothing.
 use mathlib.Core.Path.{_≡_, refl, sym, ap, _∙_}
 use mathlib.Core.Bool.{Bool, true, false, not}
-use mathlib.Core.List.{List, [], _∷_, _++_, append-assoc, append-nil}
-use Prim.Native.Nat.{ℕ, _+_, _≤_}
+use mathlib.Core.List.{List, [], _∷_, _++_, append-assoc, append-nil, List·Memᴰ, List·Memᴰ·head, List·Memᴰ·tail, List·Memᴰ·cases-cons, List·Memᴰ·not-nil}
+use mathlib.Core.Logic.{_⊎_, inl, inr, ⊎-elim}
+use Prim.Native.Nat.{ℕ, zero, suc, _+_, _≤_, _<_}
 use native.Mathlib.Omega.{arith}
 use native.Mathlib.Decide.{ℕ-discrete}
 use borrow.Author.Tests.{eqb-true, eq-eqb, ne-eqb}
 use lib.Dec.{eqb}
-use lib.ListN.{length, length-append}
-use Rattle.laws.specs.Basics.{choose, both, either, keep, member, distinct, basics}
+use lib.ListN.{length, getD, length-append}
+use Rattle.laws.specs.Basics.{choose, both, either, every, keep, member, count, distinct, rising, basics}
+use Rattle.laws.proofs.Tests.{true≢false, both-left, both-right, both-true, either-cases, either-left, either-right}
 
 pub eqb-sym : (x y : ℕ) → eqb x y ≡ eqb y x
 eqb-sym x y =
@@ -39,7 +41,105 @@ module _ {A : Type 0} where
       go again true = ap (λ (r : List A). choose (f x) (x ∷ r) r) again
       go again false = again
 
+-- a number stands no more often among those kept
+pub count-keep : (f : ℕ → Bool) (s : ℕ) (l : List ℕ) → count s (keep f l) ≤ count s l
+unfolding basics
+count-keep f s [] = omega arith
+count-keep f s (x ∷ l) = by (f x) (count-keep f s l)
+  where
+    by : (b : Bool) → count s (keep f l) ≤ count s l → count s (choose b (x ∷ keep f l) (keep f l)) ≤ count s (x ∷ l)
+    by true h = omega arith
+    by false h = omega arith
+
+-- what holds at each place of the list where the test does, holds at each place of those kept
+module _ {A : Type 0} (f : A → Bool) (d : A) where
+  pub keep-each : (P : A → Type 0) (l : List A) → ((i : ℕ) → i < length l → f (getD l i d) ≡ true → P (getD l i d)) → (i : ℕ) → i < length (keep f l) → P (getD (keep f l) i d)
+  unfolding basics
+  keep-each P [] p i l = absurd (omega arith)
+  keep-each P (x ∷ xs) p i l = by (keep-each P xs (λ i l e. p (suc i) (omega arith) e)) (f x) refl i l
+    where
+      by : ((i : ℕ) → i < length (keep f xs) → P (getD (keep f xs) i d)) → (b : Bool) → f x ≡ b → (i : ℕ) → i < length (choose b (x ∷ keep f xs) (keep f xs)) → P (getD (choose b (x ∷ keep f xs) (keep f xs)) i d)
+      by again true e zero l = p 0 (omega arith) e
+      by again true e (suc i) l = again i (omega arith)
+      by again false e i l = again i l
+
+  -- and of each two
+  pub keep-pairs : (P : A → A → Type 0) (l : List A) → ((i j : ℕ) → i < j → j < length l → f (getD l i d) ≡ true → f (getD l j d) ≡ true → P (getD l i d) (getD l j d)) → (i j : ℕ) → i < j → j < length (keep f l) → P (getD (keep f l) i d) (getD (keep f l) j d)
+  unfolding basics
+  keep-pairs P [] p i j m l = absurd (omega arith)
+  keep-pairs P (x ∷ xs) p i j m l =
+      by (keep-pairs P xs (λ i j m l e g. p (suc i) (suc j) (omega arith) (omega arith) e g)) (f x) refl i j m l
+    where
+      by : ((i j : ℕ) → i < j → j < length (keep f xs) → P (getD (keep f xs) i d) (getD (keep f xs) j d)) → (b : Bool) → f x ≡ b → (i j : ℕ) → i < j → j < length (choose b (x ∷ keep f xs) (keep f xs)) → P (getD (choose b (x ∷ keep f xs) (keep f xs)) i d) (getD (choose b (x ∷ keep f xs) (keep f xs)) j d)
+      by again true e i zero m l = absurd (omega arith)
+      by again true e zero (suc j) m l =
+          keep-each (λ y. P x y) xs (λ i l g. p 0 (suc i) (omega arith) (omega arith) e g) j (omega arith)
+      by again true e (suc i) (suc j) m l = again i j (omega arith) (omega arith)
+      by again false e i j m l = again i j m l
+
 -- ---- member
+
+pub among : (s : ℕ) (l : List ℕ) → member s l ≡ true → List·Memᴰ s l
+unfolding basics
+among s [] e = absurd (true≢false (sym e))
+among s (x ∷ l) e =
+    ⊎-elim (λ p. List·Memᴰ·head (eqb-true s x p)) (λ p. List·Memᴰ·tail (among s l p)) (either-cases (eqb s x) _ e)
+
+pub is-member : (s : ℕ) (l : List ℕ) → List·Memᴰ s l → member s l ≡ true
+unfolding basics
+is-member s [] m = absurd (List·Memᴰ·not-nil m)
+is-member s (x ∷ l) m =
+    ⊎-elim (λ p. either-left (member s l) (eq-eqb s x p)) (λ p. either-right (eqb s x) (is-member s l p))
+    (List·Memᴰ·cases-cons m)
+
+pub first-member : (s : ℕ) (l : List ℕ) → member s (s ∷ l) ≡ true
+unfolding basics
+first-member s l = either-left (member s l) (eq-eqb s s refl)
+
+pub later-member : (s x : ℕ) (l : List ℕ) → member s l ≡ true → member s (x ∷ l) ≡ true
+unfolding basics
+later-member s x l e = either-right (eqb s x) e
+
+pub member-other : (s x : ℕ) (l : List ℕ) → (s ≡ x → ⊥) → member s (x ∷ l) ≡ member s l
+unfolding basics
+member-other s x l d = ap (λ (b : Bool). either b (member s l)) (ne-eqb s x d)
+
+pub member-cases : (s x : ℕ) (l : List ℕ) → member s (x ∷ l) ≡ true → (s ≡ x) ⊎ (member s l ≡ true)
+unfolding basics
+member-cases s x l e = ⊎-elim (λ p. inl (eqb-true s x p)) (λ p. inr p) (either-cases (eqb s x) _ e)
+
+pub every-member : (f : ℕ → Bool) (l : List ℕ) → every f l ≡ true → (s : ℕ) → member s l ≡ true → f s ≡ true
+unfolding basics
+every-member f [] e s m = absurd (true≢false (sym m))
+every-member f (x ∷ l) e s m =
+    ⊎-elim (λ p. ap f p ∙ both-left (f x) _ e)
+    (λ p. every-member f l (both-right (f x) _ e) s p)
+    (member-cases s x l m)
+
+pub member-every : (f : ℕ → Bool) (l : List ℕ) → ((s : ℕ) → member s l ≡ true → f s ≡ true) → every f l ≡ true
+unfolding basics
+member-every f [] p = refl
+member-every f (x ∷ l) p =
+    both-true (p x (first-member x l)) (member-every f l (λ s m. p s (later-member s x l m)))
+
+pub member-rising : (a n s : ℕ) → a ≤ s → s < a + n → member s (rising a n) ≡ true
+unfolding basics
+member-rising a zero s l h = absurd (omega arith)
+member-rising a (suc n) s l h =
+    elim (ℕ-discrete s a) [
+      | yes e ↦ ap (λ (x : ℕ). member x (a ∷ rising (suc a) n)) e ∙ first-member a (rising (suc a) n)
+      | no d ↦ later-member s a (rising (suc a) n) (member-rising (suc a) n s (omega arith) (omega arith))
+    ]
+
+-- what is no member is not counted
+pub no-member : (s : ℕ) (l : List ℕ) → member s l ≡ false → count s l ≡ 0
+unfolding basics
+no-member s [] e = refl
+no-member s (x ∷ l) e = by (eqb s x) (λ p. no-member s l p) e
+  where
+    by : (b : Bool) → (member s l ≡ false → count s l ≡ 0) → either b (member s l) ≡ false → choose b 1 0 + count s l ≡ 0
+    by true rest p = absurd (true≢false p)
+    by false rest p = omega (arith, rest p)
 
 pub member-append : (n : ℕ) (xs ys : List ℕ) → member n (xs ++ ys) ≡ either (member n xs) (member n ys)
 unfolding basics

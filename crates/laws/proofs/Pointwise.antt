@@ -13,6 +13,7 @@ use lib.Seq.{getD-take, getD-drop, take-append-le, drop-append-le, length-take-l
 use Rattle.laws.specs.Basics.{choose, every, find, count, rising, basics}
 use Rattle.laws.proofs.Tests.{both-left, both-right, both-true}
 use Rattle.laws.proofs.Zeros.{falling, rising-last}
+use Rattle.laws.proofs.Options.{none-some, some-value}
 
 -- ---- every
 
@@ -121,12 +122,6 @@ pub record Found {A : Type 0} (f : A → Bool) (d : A) (l : List A) (a : A) : Ty
   pub below : place < length l
   pub is : getD l place d ≡ a
   pub holds : f a ≡ true
-
-some-value : {A : Type 0} {a b : A} → some a ≡ some b → a ≡ b
-some-value e = cc
-
-none-some : {A : Type 0} {a : A} → none ≡ some a → ⊥
-none-some e = let z : _≡_ {A = ℕ} 0 1 = cc in omega arith
 
 module _ {A : Type 0} (f : A → Bool) (d : A) where
   pub find-some : (l : List A) (a : A) → find f l ≡ some a → Found f d l a

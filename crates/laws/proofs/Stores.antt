@@ -6,7 +6,7 @@ use Prim.Native.Nat.{ℕ, zero, suc, _+_, _≤_, _<_}
 use native.Mathlib.Omega.{arith}
 use lib.ListN.{length, getD, set, length-append, length-set}
 use lib.Seq.{sets, getD-set-same, getD-set-other, set-append-seam}
-use Rattle.laws.specs.Basics.{zeros, basics}
+use Rattle.laws.specs.Basics.{zeros}
 use Rattle.laws.proofs.Lists.{getD-zeros}
 
 -- ---- by index
@@ -43,13 +43,6 @@ sets-middle p (y ∷ q) r (x ∷ t) e =
     (λ i. sets (front i) (size i) t) ∙ sets-middle p′ q r t (omega arith) ∙ append-assoc p (x ∷ []) (t ++ r)
 
 -- ---- zeros
-
-pub zeros-add : (a b : ℕ) → zeros a ++ zeros b ≡ zeros (a + b)
-unfolding basics
-zeros-add zero b = ap zeros (sym (native.Mathlib.Nat.zero-add b))
-zeros-add (suc a) b =
-    let e : suc (a + b) ≡ suc a + b = omega arith in
-    ap (λ (l : List ℕ). 0 ∷ l) (zeros-add a b) ∙ ap zeros e
 
 -- past a list zeros are what is read there anyway
 pub getD-before-zeros : (l : List ℕ) (n i : ℕ) → getD (l ++ zeros n) i 0 ≡ getD l i 0

@@ -1,14 +1,14 @@
 -- What a test over a list or a range says, and how it is shown. Assumes nothing.
-use mathlib.Core.Path.{_≡_, refl, sym, ap, _∙_}
-use mathlib.Core.Bool.{Bool, true, false, not}
+use mathlib.Core.Path.{_≡_, refl, sym, ap, _∙_, subst}
+use mathlib.Core.Bool.{Bool, true, false}
 use mathlib.Core.List.{List, [], _∷_, _++_}
 use mathlib.Core.Logic.{_⊎_, inl, inr}
-use Prim.Native.Nat.{ℕ, zero, suc, _+_, _≤_, _<_}
+use Prim.Native.Nat.{ℕ, zero, suc, _<_}
 use native.Mathlib.Omega.{arith}
 use native.Mathlib.Decide.{ℕ-discrete}
 use borrow.Author.Tests.{eqb-true, eq-eqb}
-use lib.Dec.{eqb}
-use lib.ListN.{length, getD}
+use lib.Dec.{T, eqb}
+use lib.ListN.{take, drop}
 use Rattle.laws.specs.Basics.{both, either, choose, every, every-below, join, same, basics}
 
 -- ---- both, either
@@ -38,6 +38,30 @@ pub either-right : (a : Bool) {b : Bool} → b ≡ true → either a b ≡ true
 either-right true e = refl
 either-right false e = e
 
+pub either-left-false : (a b : Bool) → either a b ≡ false → a ≡ false
+either-left-false true b e = absurd (true≢false e)
+either-left-false false b e = refl
+
+pub either-right-false : (a b : Bool) → either a b ≡ false → b ≡ false
+either-right-false true b e = absurd (true≢false e)
+either-right-false false b e = e
+
+-- the first does not hold, so the second does
+pub either-by : (a : Bool) {b : Bool} → a ≡ false → either a b ≡ true → b ≡ true
+either-by true p q = absurd (true≢false p)
+either-by false p q = q
+
+pub either-false : (b : Bool) → either b false ≡ b
+either-false true = refl
+either-false false = refl
+
+pub both-false : (b : Bool) → both b false ≡ false
+both-false true = refl
+both-false false = refl
+
+pub is-true : {b : Bool} → b ≡ true → T b
+is-true {b} e = subst (λ (x : Bool). T x) (sym e) tt
+
 -- ---- every
 
 module _ {A : Type 0} (f : A → Bool) where
@@ -55,6 +79,18 @@ module _ {A : Type 0} (f : A → Bool) where
   unfolding basics
   every-back [] ys p = p
   every-back (x ∷ xs) ys p = every-back xs ys (both-right (f x) _ p)
+
+  pub every-take : (n : ℕ) (l : List A) → every f l ≡ true → every f (take n l) ≡ true
+  unfolding basics
+  every-take zero l h = refl
+  every-take (suc n) [] h = refl
+  every-take (suc n) (x ∷ l) h = both-true (both-left (f x) _ h) (every-take n l (both-right (f x) _ h))
+
+  pub every-drop : (n : ℕ) (l : List A) → every f l ≡ true → every f (drop n l) ≡ true
+  unfolding basics
+  every-drop zero l h = h
+  every-drop (suc n) [] h = refl
+  every-drop (suc n) (x ∷ l) h = every-drop n l (both-right (f x) _ h)
 
 -- ---- every-below
 

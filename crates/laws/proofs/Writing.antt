@@ -1,8 +1,8 @@
 -- A run of stores, `sets` of lib.Seq, in two runs: one behind the other, and the last store first. The part of a list from
 -- a place on, as code that lends it has it. Assumes nothing.
-use mathlib.Core.Path.{_≡_, refl, sym, ap, _∙_}
+use mathlib.Core.Path.{_≡_, ap, _∙_}
 use mathlib.Core.List.{List, [], _∷_, _++_}
-use Prim.Native.Nat.{ℕ, zero, suc, _+_, _-_, _≤_}
+use Prim.Native.Nat.{ℕ, suc, _+_, _-_}
 use native.Mathlib.Omega.{arith}
 use lib.ListN.{length, set, take, drop, length-drop}
 use lib.Seq.{sets, set-comm, take-all}
@@ -27,3 +27,9 @@ sets-last l at (y ∷ a) x =
 -- a part that reaches to the end
 pub to-end : (l : List ℕ) (a : ℕ) → take (length l - a) (drop a l) ≡ drop a l
 to-end l a = take-all (length l - a) (drop a l) (omega (arith, length-drop a l))
+
+-- a part by its place and its end
+pub part-end : (l : List ℕ) (place size : ℕ) → take (place + size - place) (drop place l) ≡ take size (drop place l)
+part-end l place size =
+    let e : place + size - place ≡ size = omega arith in
+    ap (λ (n : ℕ). take n (drop place l)) e

@@ -2,11 +2,12 @@
 use mathlib.Core.Path.{_≡_, refl, ap, _∙_}
 use mathlib.Core.Bool.{true}
 use mathlib.Core.List.{List, [], _∷_, _++_, reverse}
-use Prim.Native.Nat.{ℕ, zero, suc, _+_, _≤_}
+use Prim.Native.Nat.{ℕ, zero, suc, _+_, _-_, _≤_}
 use native.Mathlib.Omega.{arith}
+use native.Mathlib.Decide.{decLt}
 use borrow.Author.Tests.{lt-ltb}
 use lib.Dec.{ltb}
-use lib.ListN.{take}
+use lib.ListN.{take, drop, getD, replicate, getD-replicate, length-replicate, List·getD-eq-default}
 use Rattle.laws.specs.Basics.{every, rising, zeros, basics}
 use Rattle.laws.proofs.Tests.{both-true}
 
@@ -20,6 +21,20 @@ unfolding basics
 take-zeros zero m h = refl
 take-zeros (suc n) zero h = absurd (omega arith)
 take-zeros (suc n) (suc m) h = ap (λ (l : List ℕ). 0 ∷ l) (take-zeros n m (omega arith))
+
+pub drop-zeros : (n m : ℕ) → n ≤ m → drop n (zeros m) ≡ zeros (m - n)
+unfolding basics
+drop-zeros zero m h = let e : m ≡ m - 0 = omega arith in ap zeros e
+drop-zeros (suc n) zero h = absurd (omega arith)
+drop-zeros (suc n) (suc m) h = let e : m - n ≡ suc m - suc n = omega arith in drop-zeros n m (omega arith) ∙ ap zeros e
+
+-- and those that code made, one by one
+pub all-zero : (n i : ℕ) → _≡_ {A = ℕ} (getD {A = ℕ} (replicate n 0) i 0) 0
+all-zero n i =
+    elim (decLt i n) [
+      | yes h ↦ getD-replicate n i 0 0 h
+      | no h ↦ List·getD-eq-default {A = ℕ} (replicate n 0) 0 (omega (arith, length-replicate {A = ℕ} n 0))
+    ]
 
 pub rising-last : (a n : ℕ) → rising a (suc n) ≡ rising a n ++ ((a + n) ∷ [])
 unfolding basics

@@ -14,12 +14,13 @@ use lib.Seq.{sets, length-sets, length-take-le, split-at, set-split, getD-set-sa
 use Rattle.laws.specs.Basics.{choose, both, join, rising, zeros, basics}
 use Rattle.laws.proofs.Tests.{both-left, join-append}
 use Rattle.laws.proofs.Lists.{length-zeros, getD-rows}
-use Rattle.laws.proofs.Stores.{sets-other, sets-in, sets-middle, zeros-add, getD-before-zeros}
+use Rattle.laws.proofs.Stores.{sets-other, sets-in, sets-middle, getD-before-zeros}
+use Rattle.laws.proofs.Zeros.{zeros-append}
 use Rattle.rules.specs.Map.{Allocated, state-in, is-allocated, map-rules}
 use Rattle.rules.specs.Cells.{undefined, Value, scalar, Block, Cell, plain}
 use Rattle.rules.specs.Heap.{Heap, capacity, cell-at, in-use, part-of, text-of, block-after, with-cell, with-bytes, with-elements}
 use Rattle.rules.specs.Layout.{cell-words, value-words, cell-from, value-from, header-words, entry-at, row-words, words-of, filled, layout-rules}
-use Rattle.rules.proofs.LentLaws.{cell-width, value-width, cell-again, value-again, words-length, word-at, cell-word, words-again, elements-length}
+use Rattle.rules.proofs.LentLaws.{cell-width, value-width, cell-again, value-again, words-length, word-at, cell-word, words-again, elements-length, filled-zeros}
 use Rattle.leaf_cells.specs.Words.{stored}
 use Rattle.leaf_cells.specs.Cells.{loaded, looked-up, stored-cell}
 use Rattle.leaf_cells.specs.Elements.{loaded-element, stored-element}
@@ -184,17 +185,9 @@ unfolding stored layout-rules
 stored-behind room l t fits =
     let rest = room - length (l ++ t) in
     let apart : room - length l ≡ length t + rest = omega (arith, length-append l t) in
-    ap (λ (z : List ℕ). sets (l ++ z) (length l) t) (ap zeros apart ∙ sym (zeros-add (length t) rest))
+    ap (λ (z : List ℕ). sets (l ++ z) (length l) t) (ap zeros apart ∙ sym (zeros-append (length t) rest))
     ∙ sets-middle l (zeros (length t)) (zeros rest) t (length-zeros (length t))
     ∙ sym (append-assoc l t (zeros rest))
-
--- zeros in use look like zeros that are not
-filled-zeros : (room : ℕ) (l : List ℕ) (k : ℕ) → length l + k ≤ room → filled room (l ++ zeros k) ≡ filled room l
-unfolding layout-rules
-filled-zeros room l k fits =
-    let rest = room - length (l ++ zeros k) in
-    let whole : k + rest ≡ room - length l = omega (arith, length-append l (zeros k), length-zeros k) in
-    append-assoc l (zeros k) (zeros rest) ∙ ap (λ (z : List ℕ). l ++ z) (zeros-add k rest ∙ ap zeros whole)
 
 undefined-words : (k : ℕ) → join value-words (replicate k (scalar undefined)) ≡ zeros (3 * k)
 unfolding layout-rules basics

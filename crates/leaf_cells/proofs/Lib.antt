@@ -3,3 +3,4 @@ pub mod RoomLaws
 pub mod HeapLaws
 pub mod CallLaws
 pub mod Determined
+pub mod Variants

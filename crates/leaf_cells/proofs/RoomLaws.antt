@@ -2,10 +2,10 @@
 use mathlib.Core.Path.{_≡_, sym, ap, _∙_}
 use mathlib.Core.Bool.{Bool}
 use mathlib.Core.List.{List}
-use Prim.Native.Nat.{ℕ, suc, _+_, _-_, _≤_, _<_}
+use Prim.Native.Nat.{ℕ, suc, _+_, _≤_, _<_}
 use native.Mathlib.Omega.{arith}
 use borrow.Author.Tests.{eq-eqb, ne-eqb}
-use lib.ListN.{length, getD, set, take, drop, drop-of-length-le}
+use lib.ListN.{length, getD, set, drop, drop-of-length-le}
 use lib.Seq.{drop-cons}
 use Rattle.laws.specs.Basics.{choose}
 use Rattle.leaf_cells.specs.Words.{stored}
@@ -37,10 +37,3 @@ place-none end n e = sym (ap (λ (b : Bool). choose b 0 end) (eq-eqb n 0 e))
 pub place-some : (end n : ℕ) → (n ≡ 0 → ⊥) → end ≡ new-place end n
 unfolding new-place
 place-some end n d = sym (ap (λ (b : Bool). choose b 0 end) (ne-eqb n 0 d))
-
--- ---- a part by its place and size
-
-pub part-end : (l : List ℕ) (place size : ℕ) → take (place + size - place) (drop place l) ≡ take size (drop place l)
-part-end l place size =
-    let e : place + size - place ≡ size = omega arith in
-    ap (λ (n : ℕ). take n (drop place l)) e

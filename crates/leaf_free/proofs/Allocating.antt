@@ -3,8 +3,7 @@
 use mathlib.Core.Path.{_≡_, refl, sym, ap, _∙_, subst}
 use mathlib.Core.Bool.{true}
 use mathlib.Core.List.{List, [], _∷_, _++_, reverse, append-nil}
-use Prim.Native.Nat.{ℕ, suc, _+_, _-_, _*_, _/_, _%_, _≤_, _<_}
-use native.Mathlib.Nat.{mul-left-comm}
+use Prim.Native.Nat.{ℕ, suc, _+_, _-_, _/_, _%_, _≤_, _<_}
 use native.Mathlib.Omega.{arith}
 use native.Mathlib.Decide.{decLe}
 use borrow.Author.Tests.{ltb-true, eqb-true}
@@ -18,13 +17,13 @@ use Rattle.rules.specs.Map.{set-state, state-of, Allocated, Free}
 use Rattle.rules.specs.Cells.{plain, undefined}
 use Rattle.rules.specs.Heap.{Heap, Given, capacity, free-count, used-count, fitting, most-growths, grow, pop, alloc}
 use Rattle.rules.specs.Layout.{words-of, map-bytes, filled}
-use Rattle.rules.proofs.LentLaws.{words-length, filled-length}
+use Rattle.rules.proofs.LentLaws.{words-length, filled-length, filled-zeros}
 use Rattle.rules.proofs.TwoBits.{set-state-length, state-past}
 use Rattle.leaf_free.specs.FreeList.{count-of, grown-words, popped, top, ready, CanGrow, CanPop, CanAlloc, Popped}
-use Rattle.rules.proofs.Growth.{Whole, grown-whole, rises, fitting-end, fitting-grown, fitting-least}
+use Rattle.rules.proofs.Growth.{Whole, grown-whole, rises, fitting-end, fitting-grown, fitting-least, fours}
 use Rattle.leaf_free.proofs.Steps.{ready-empty, ready-already}
 use Rattle.leaf_free.proofs.FreeWords.{goal, chunk-word, capacity-word, count-word, goal-word, grow-words, top-word, pop-words}
-use Rattle.leaf_free.proofs.FreeMap.{filled-zeros, filled-state}
+use Rattle.leaf_free.proofs.FreeMap.{filled-state}
 
 -- a heap within the lent slots that growth came to, with a free list of slots below its capacity
 pub record Growing (slots : ℕ) (h : Heap) : Type 0 where
@@ -64,14 +63,6 @@ filled-by h (s ∷ rest) e = next (record { slot = s; rest = rest; is = e })
 
 pub free-or-not : (h : Heap) → Filled h
 free-or-not h = filled-by h (h .free) refl
-
--- whole chunks of whole fours are whole fours
-fours : (chunk size : ℕ) → chunk % 4 ≡ 0 → Whole chunk size → size % 4 ≡ 0
-fours chunk size f w =
-    let q = chunk / 4 in
-    let c : chunk ≡ 4 * q = omega arith in
-    let e : size ≡ 4 * (w .chunks * q) = w .is ∙ ap (λ (n : ℕ). w .chunks * n) c ∙ mul-left-comm (w .chunks) 4 q in
-    omega arith
 
 -- the lent map holds the heap's
 pub lent-map-length : (slots : ℕ) (h : Heap) → Growing slots h → length (filled (map-bytes slots) (h .map)) ≡ map-bytes slots

@@ -1,16 +1,18 @@
 -- What allocating leaves as it was, and that it keeps "the free list holds each Free slot once". Assumes nothing.
 use mathlib.Core.Path.{_≡_, refl, sym, ap, _∙_, subst}
 use mathlib.Core.Bool.{Bool, true, false, not}
-use mathlib.Core.List.{List, [], _∷_, _++_, reverse}
+use mathlib.Core.List.{[], reverse}
 use Prim.Native.Nat.{ℕ, zero, suc, _+_, _-_, _/_, _%_, _≤_, _<_}
 use native.Mathlib.Omega.{arith}
 use native.Mathlib.Decide.{ℕ-discrete, decLt}
-use borrow.Author.Tests.{eqb-true, eq-eqb, ne-eqb}
+use borrow.Author.Tests.{eqb-true, eq-eqb}
 use lib.Dec.{eqb, ltb, lit<}
-use lib.ListN.{getD, List·getD-eq-default}
-use Rattle.laws.specs.Basics.{choose, both, either, every, count, rising, zeros, basics}
-use Rattle.laws.proofs.Tests.{both-right, both-true, either-right, below-all, all-below}
+use lib.ListN.{List·getD-eq-default}
+use Rattle.laws.specs.Basics.{choose, both, either, every, count, rising, basics}
+use Rattle.laws.proofs.Tests.{both-right, both-true, either-right, below-all, all-below, both-false}
 use Rattle.laws.proofs.Zeros.{falling}
+use Rattle.laws.proofs.Pointwise.{count-here, count-other}
+use Rattle.laws.proofs.Stores.{getD-before-zeros}
 use Rattle.rules.specs.Map.{state-in, state-of, set-state, is-allocated, Allocated, Free}
 use Rattle.rules.specs.Cells.{plain, undefined}
 use Rattle.rules.specs.Heap.{Heap, Given, capacity, cell-at, in-use, reaches, most-growths, grow, pop, alloc}
@@ -33,18 +35,9 @@ pub record TakenFrom (h : Heap) (given : Given) : Type 0 where
   pub slot-allocated : state-of (given .heap .map) (given .slot) ≡ Allocated
   pub others-kept : (s : ℕ) → (s ≡ given .slot → ⊥) → state-of (given .heap .map) s ≡ state-of (h .map) s
 
--- zeros past the map's end change no state
-past-zeros : (m : List ℕ) (k i : ℕ) → getD (m ++ zeros k) i 0 ≡ getD m i 0
-unfolding basics
-past-zeros [] zero i = refl
-past-zeros [] (suc k) zero = refl
-past-zeros [] (suc k) (suc i) = past-zeros [] k i
-past-zeros (x ∷ m) k zero = refl
-past-zeros (x ∷ m) k (suc i) = past-zeros m k i
-
 pub grow-states : (h : Heap) (s : ℕ) → state-of (grow h .map) s ≡ state-of (h .map) s
 unfolding grow state-of
-grow-states h s = ap (λ (b : ℕ). state-in b (s % 4)) (past-zeros (h .map) ((goal h - capacity h) / 4) (s / 4))
+grow-states h s = ap (λ (b : ℕ). state-in b (s % 4)) (getD-before-zeros (h .map) ((goal h - capacity h) / 4) (s / 4))
 
 pub grow-cells : (h : Heap) (i : ℕ) → cell-at (grow h) i ≡ cell-at h i
 unfolding grow
@@ -134,14 +127,6 @@ nothing : (s : ℕ) → count s [] ≡ 0
 unfolding basics
 nothing s = refl
 
-count-same : (s x : ℕ) (l : List ℕ) → s ≡ x → count s (x ∷ l) ≡ 1 + count s l
-unfolding basics
-count-same s x l e = ap (λ (b : Bool). one-if b + count s l) (eq-eqb s x e)
-
-count-other : (s x : ℕ) (l : List ℕ) → (s ≡ x → ⊥) → count s (x ∷ l) ≡ count s l
-unfolding basics
-count-other s x l d = ap (λ (b : Bool). one-if b + count s l) (ne-eqb s x d) ∙ native.Mathlib.Nat.zero-add (count s l)
-
 count-falling-out : (a n s : ℕ) → s < a → count s (reverse (rising a n)) ≡ 0
 unfolding basics
 count-falling-out a zero s h = refl
@@ -160,7 +145,7 @@ count-falling-in a zero s h k = absurd (omega arith)
 count-falling-in a (suc n) s h k =
     elim (ℕ-discrete s (a + n)) [
       | yes e ↦
-          ap (count s) (falling a n) ∙ count-same s (a + n) (reverse (rising a n)) e
+          ap (count s) (falling a n) ∙ count-here s (a + n) (reverse (rising a n)) e
           ∙ ap (λ (m : ℕ). 1 + m) (count-falling-above a n s (omega arith))
       | no d ↦
           ap (count s) (falling a n) ∙ count-other s (a + n) (reverse (rising a n)) d
@@ -173,7 +158,7 @@ module _ (slots : ℕ) (h : Heap) (g : Growing slots h) (o : Once h) where
   unfolding is-free
   next-free t =
       let e : count (t .slot) (h .free) ≡ 1 + count (t .slot) (t .rest) =
-      ap (count (t .slot)) (t .is) ∙ count-same (t .slot) (t .slot) (t .rest) refl
+      ap (count (t .slot)) (t .is) ∙ count-here (t .slot) (t .slot) (t .rest) refl
       in
       chosen (eqb (state-of (h .map) (t .slot)) Free) (state-of (h .map) (t .slot)) refl
       (omega (arith, o (t .slot) (next-below slots h g t)))
@@ -186,7 +171,7 @@ module _ (slots : ℕ) (h : Heap) (g : Growing slots h) (o : Once h) where
   taken-once t s small =
       elim (ℕ-discrete s (t .slot)) [
         | yes e ↦
-            let whole : count s (h .free) ≡ 1 + count s (t .rest) = ap (count s) (t .is) ∙ count-same s (t .slot) (t .rest) e in
+            let whole : count s (h .free) ≡ 1 + count s (t .rest) = ap (count s) (t .is) ∙ count-here s (t .slot) (t .rest) e in
             let none : count s (t .rest) ≡ 0 = omega (arith, o s small, choose-small (is-free h s)) in
             none
             ∙ sym (not-free (taken h (t .slot) (t .rest)) s
@@ -237,15 +222,11 @@ alloc-was-free slots h g room e =
           ∙ state-past (h .map) (t .slot) (omega (arith, g .map-size, grown-above slots h g none (room none)))
     ]
 
-both-none : (b : Bool) → both b false ≡ false
-both-none true = refl
-both-none false = refl
-
 pub alloc-unused : (slots : ℕ) (h : Heap) → Growing slots h → Room slots h → free-once h ≡ true → in-use h (alloc h .slot) ≡ false
 unfolding is-allocated
 alloc-unused slots h g room e =
     ap (λ (n : ℕ). both (ltb (alloc h .slot) (capacity h)) (eqb n Allocated)) (alloc-was-free slots h g room e)
-    ∙ both-none (ltb (alloc h .slot) (capacity h))
+    ∙ both-false (ltb (alloc h .slot) (capacity h))
 
 -- ---- the other clauses on states, kept by allocating
 

@@ -1,8 +1,8 @@
 -- The loops over two names: a turn at a place decides, or leaves what is to do to the rest. Assumes nothing.
 use mathlib.Core.Path.{_≡_, refl, sym, ap, _∙_}
-use mathlib.Core.Bool.{Bool, true, false}
+use mathlib.Core.Bool.{true, false}
 use mathlib.Core.List.{List, [], _∷_}
-use Prim.Native.Nat.{ℕ, zero, suc, _+_, _<_, _≤_}
+use Prim.Native.Nat.{ℕ, suc, _+_, _<_, _≤_}
 use native.Mathlib.Numerals.{add-one}
 use native.Mathlib.Omega.{arith}
 use borrow.Author.Tests.{eq-eqb, ne-eqb}
@@ -10,7 +10,8 @@ use lib.Dec.{eqb}
 use lib.ListN.{length, getD, drop, drop-of-length-le}
 use lib.Seq.{drop-cons}
 use Rattle.laws.specs.Basics.{both, same, basics}
-use Rattle.leaf_names.specs.Ordering.{Standing, before, level, after, then, number-compare, name-compare}
+use Rattle.laws.proofs.Tests.{both-false}
+use Rattle.leaf_names.specs.Ordering.{before, level, after, then, number-compare, name-compare}
 use Rattle.leaf_names.proofs.Ordered.{number-before, number-level, number-after}
 
 module _ (a b : List ℕ) (i : ℕ) where
@@ -66,7 +67,3 @@ same-length-is [] (y ∷ b) d = refl
 same-length-is (x ∷ a) [] d = refl
 same-length-is (x ∷ a) (y ∷ b) d =
     sym (ap (both (eqb x y)) (sym (same-length-is a b (λ e. d (ap suc e)))) ∙ both-false (eqb x y))
-  where
-    both-false : (t : Bool) → both t false ≡ false
-    both-false true = refl
-    both-false false = refl

@@ -6,10 +6,10 @@ use mathlib.Core.List.{List, [], _∷_}
 use mathlib.Core.Logic.{_↔_}
 use mathlib.Core.Option.{some}
 use Prim.Native.Nat.{ℕ, zero, suc}
-use native.Mathlib.Omega.{arith}
 use lib.ListN.{length, getElem?}
 use Rattle.laws.specs.Basics.{every, same, basics}
 use Rattle.laws.proofs.Tests.{both-true, same-refl}
+use Rattle.laws.proofs.Variants.{clash}
 use Rattle.rules.specs.Cells.{Scalar, Value, slot, scalar, Block, Cell, plain, pair, symbol, string, vector, is-pair}
 use Rattle.rules.specs.Heap.{Heap, cell-at, shown, text-of, elements-of}
 use Rattle.rules.specs.Equal.{eqv-scalars, eqv-cells, eqv, alike, walks, element-by-element, Equal, equal-rules}
@@ -20,9 +20,6 @@ use Rattle.equal_laws.proofs.Eqv.{cells-eqv, slot-eqv}
 use Rattle.equal_laws.proofs.Levels.{Alike, by-eqv, by-walk, by-elements, Walks, by-pairs, at-end, alike-holds, walks-hold, holds-equal, equal-one}
 use Rattle.r7rs_laws.proofs.Trees.{tree-below, tree-face, equal-tree}
 use Rattle.r7rs_laws.proofs.Listed.{Walk-stop, listed-scalar, same-symbol, listed-below, listed-itself, listed-cdr}
-
-clash : {A : Type 0} → _≡_ {A = ℕ} 0 1 → A
-clash e = absurd (omega arith)
 
 module _ (h : Heap) where
   -- ---- two cells that show the same

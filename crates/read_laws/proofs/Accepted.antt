@@ -14,6 +14,7 @@ use Rattle.laws.specs.Basics.{every, join, distinct, basics}
 use Rattle.laws.proofs.Tests.{both-left, both-right, both-true}
 use Rattle.laws.proofs.Lists.{getD-rows}
 use Rattle.laws.proofs.Pointwise.{every-weaker}
+use Rattle.laws.proofs.Options.{some-value, none-some}
 use Rattle.rules.specs.Numbers.{bits64, most-nodes, most-labels}
 use Rattle.rules.specs.Cells.{Scalar, undefined, nil, eof, void, bool, char, number, Value, slot, scalar, Cell, plain, pair, symbol, string, vector}
 use Rattle.rules.specs.Nodes.{Node, node-fits, scalar-fits, nodes-rules}
@@ -141,12 +142,6 @@ written-accepted labels r d few w =
 
     none-early : early-reference d ≡ false
     none-early = ap (refers-early []) (sym (append-nil (nodes d))) ∙ w .early []
-
-some-value : {A : Type 0} {a b : A} → some a ≡ some b → a ≡ b
-some-value e = cc
-
-none-some : {A : Type 0} {a : A} → none ≡ some a → ⊥
-none-some e = let z : _≡_ {A = ℕ} 0 1 = cc in omega arith
 
 pub reading-accepted : (h : Heap) → Good h → Narrow h → (v : Value) → value-fits v ≡ true → (d : Datum) → reading h v ≡ some d → Accepted d
 unfolding reading

@@ -12,6 +12,7 @@ use lib.ListN.{length}
 use Rattle.laws.specs.Basics.{choose, either, every, keep, join, member, count, distinct, basics}
 use Rattle.laws.proofs.Tests.{true≢false, both-left, both-right, both-true, every-append}
 use Rattle.laws.proofs.Pointwise.{count-here, count-other}
+use Rattle.laws.proofs.Members.{count-keep}
 use Rattle.rules.specs.Read.{place-in}
 use Rattle.rules.proofs.Good.{each-once}
 
@@ -33,15 +34,6 @@ every-distinct f [] h = refl
 every-distinct f (x ∷ xs) h =
     both-true (both-left (f x) _ h)
     (every-keep f (λ y. not (eqb x y)) (distinct xs) (every-distinct f xs (both-right (f x) _ h)))
-
-count-keep : (g : ℕ → Bool) (k : ℕ) (xs : List ℕ) → count k (keep g xs) ≤ count k xs
-unfolding basics
-count-keep g k [] = omega arith
-count-keep g k (x ∷ xs) = go (g x) (count-keep g k xs)
-  where
-    go : (b : Bool) → count k (keep g xs) ≤ count k xs → count k (choose b (x ∷ keep g xs) (keep g xs)) ≤ count k (x ∷ xs)
-    go true h = omega arith
-    go false h = omega arith
 
 count-gone : (x : ℕ) (xs : List ℕ) → count x (keep (λ y. not (eqb x y)) xs) ≡ 0
 unfolding basics

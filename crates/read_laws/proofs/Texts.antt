@@ -11,6 +11,7 @@ use lib.Dec.{leb, ltb}
 use Rattle.laws.specs.Basics.{both, every, find, basics}
 use Rattle.laws.proofs.Tests.{true≢false, both-left, both-right, both-true}
 use Rattle.laws.proofs.Pointwise.{every-all, find-some}
+use Rattle.laws.proofs.Options.{some-value, none-some}
 use Rattle.rules.specs.Utf8.{Range, _to_, Row, rows, within, follows, utf8, utf8-after, utf8-rules}
 use Rattle.rules.specs.Nodes.{bytes, nodes-rules}
 
@@ -33,12 +34,6 @@ in-range (x to y) b s w =
 record First (b : ℕ) (rs : List Range) : Type 0 where
   small : ltb b 256 ≡ true
   after : every range-small rs ≡ true
-
-none-some : {A : Type 0} {a : A} → none ≡ some a → ⊥
-none-some e = let z : _≡_ {A = ℕ} 0 1 = cc in omega arith
-
-some-value : {A : Type 0} {a b : A} → some a ≡ some b → a ≡ b
-some-value e = cc
 
 first : (b : ℕ) (rs : List Range) → follows b ≡ some rs → First b rs
 unfolding follows row-small basics

@@ -13,15 +13,17 @@ use lib.ListN.{length, length-append}
 use Rattle.laws.specs.Basics.{both, either, every, member, basics}
 use Rattle.laws.proofs.Tests.{both-left, both-right, both-true, every-append}
 use Rattle.laws.proofs.Pointwise.{all-every, length-part, getD-part}
+use Rattle.laws.proofs.Options.{some-value, none-some}
 use Rattle.rules.specs.Numbers.{bits32, most-labels, most-vector, most-string, most-name}
 use Rattle.rules.specs.Utf8.{utf8}
 use Rattle.rules.specs.Cells.{Scalar, undefined, Value, slot, scalar, Block, Cell, plain, pair, symbol, string, vector}
 use Rattle.rules.specs.Nodes.{Atom, Node, node-fits, scalar-fits, text-fits, nodes-rules}
 use Rattle.rules.specs.Datum.{Datum, Data, more, how-many, nodes, all-nodes, node-within, label-of, refers-early, datum-rules}
 use Rattle.rules.specs.Heap.{Heap, cell-at, text-of, elements-of}
-use Rattle.rules.specs.Sound.{lies-in, sound-rules}
+use Rattle.rules.specs.Sound.{sound-rules}
 use Rattle.rules.specs.Read.{Room, Built, built, and-then, spend, place-in, build-all, build-cell, build, read-rules}
 use Rattle.rules.proofs.Good.{element-at, Good, Cell-good}
+use Rattle.rules.proofs.Keeping.{lies-below}
 use Rattle.read_laws.proofs.Texts.{utf8-bytes}
 use Rattle.read_laws.proofs.Limits.{place-below, member-map}
 
@@ -80,12 +82,6 @@ module _ (labels : List ℕ) where
 
 -- ---- what a step of the build gives
 
-some-value : {A : Type 0} {a b : A} → some a ≡ some b → a ≡ b
-some-value e = cc
-
-none-some : {A : Type 0} {a : A} → none ≡ some a → ⊥
-none-some e = let z : _≡_ {A = ℕ} 0 1 = cc in omega arith
-
 -- a part was built, and what follows it
 pub record Went {A B : Type 0} (o : Option (Built A)) (next : A → Room → Option (Built B)) (b : Built B) : Type 0 where
   pub first : Built A
@@ -122,10 +118,6 @@ text-node h b most small a lies =
     both-true
     (both-true (lt-ltb (length (text-of h b)) bits32 (omega (arith, size, le, small))) (both-true (utf8-bytes (text-of h b) u) u))
     (le-leb (length (text-of h b)) most (omega (arith, size, le)))
-
-lies-inside : (used : ℕ) (b : Block) → lies-in used b ≡ true → b .place + b .size ≤ used
-unfolding sound-rules
-lies-inside used b e = leb-true (b .place + b .size) used (both-left (leb (b .place + b .size) used) _ e)
 
 module _ (h : Heap) (g : Good h) (narrow : Narrow h) (labels : List ℕ) (few : length labels ≤ most-labels) where
   -- a build of one value, or of some, writes well
@@ -184,12 +176,12 @@ module _ (h : Heap) (g : Good h) (narrow : Narrow h) (labels : List ℕ) (few : 
       let s = spent-one r (built (Datum.atom (Atom.symbol (text-of h t)))) b e in
       subst (λ (y : Built Datum). Written labels r (nodes (y .made)) (y .room)) (some-value (s .then))
       (plain-node r (Node.atom (Atom.symbol (text-of h t))) (s .left) (s .is)
-      (text-node h t most-name (omega arith) (c .allowed) (lies-inside (length (h .bytes)) t (c .text-in))) refl (λ begun rest. refl))
+      (text-node h t most-name (omega arith) (c .allowed) (lies-below (length (h .bytes)) t (c .text-in))) refl (λ begun rest. refl))
   cell-written one w (string t) c f r b e =
       let s = spent-one r (built (Datum.atom (Atom.string (text-of h t)))) b e in
       subst (λ (y : Built Datum). Written labels r (nodes (y .made)) (y .room)) (some-value (s .then))
       (plain-node r (Node.atom (Atom.string (text-of h t))) (s .left) (s .is)
-      (text-node h t most-string (omega arith) (c .allowed) (lies-inside (length (h .bytes)) t (c .text-in))) refl (λ begun rest. refl))
+      (text-node h t most-string (omega arith) (c .allowed) (lies-below (length (h .bytes)) t (c .text-in))) refl (λ begun rest. refl))
   cell-written one w (pair a d) c f r b e =
       let s = spent-one r (λ r. and-then (one (slot a) r) (λ x r. and-then (one (slot d) r) (λ y. built (Datum.pair x y)))) b e in
       let r₁ : Room = record { left = s .left; begun = r .begun } in
@@ -205,7 +197,7 @@ module _ (h : Heap) (g : Good h) (narrow : Narrow h) (labels : List ℕ) (few : 
       let s = spent-one r (λ r. and-then (build-all one (elements-of h t) r) (λ ds. built (Datum.vector ds))) b e in
       let r₁ : Room = record { left = s .left; begun = r .begun } in
       let x = went (build-all one (elements-of h t) r₁) (λ ds. built (Datum.vector ds)) b (s .then) in
-      let lies = lies-inside (length (h .elements)) t (c .vector-in) in
+      let lies = lies-below (length (h .elements)) t (c .vector-in) in
       let q = all-written one w (elements-of h t) (elements-fit t lies) r₁ (x .first) (x .is) in
       let size = q .many ∙ length-part (h .elements) (t .place) (t .size) lies in
       let most = leb-true (t .size) most-vector (c .allowed) in

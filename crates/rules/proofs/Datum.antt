@@ -1,17 +1,16 @@
 -- "The encoding of a datum parses back to it; what parses encodes back to the same bytes." Assumes nothing.
 use mathlib.Core.Path.{_≡_, refl, sym, ap, _∙_, subst, subst₃}
-use mathlib.Core.Bool.{Bool, true, false}
+use mathlib.Core.Bool.{true}
 use mathlib.Core.List.{List, [], _∷_, _++_, append-assoc, append-nil}
-use Prim.Native.Nat.{ℕ, zero, suc, _+_, _*_, _^_, _≤_, _<_}
+use Prim.Native.Nat.{ℕ, zero, suc, _+_, _*_, _≤_, _<_}
 use native.Mathlib.Omega.{arith}
-use lib.Dec.{ltb}
 use lib.ListN.{length, length-append}
 use Rattle.laws.specs.Basics.{every, join, basics}
-use Rattle.laws.proofs.Tests.{true≢false, both-left, both-right, both-true, every-append, every-front, every-back, join-append}
+use Rattle.laws.proofs.Tests.{both-left, both-right, both-true, every-append, every-front, every-back, join-append}
 use Rattle.laws.proofs.Bytes.{all-bytes}
-use Rattle.rules.specs.Refusals.{Fault, cut-short, left-over}
-use Rattle.rules.specs.Nodes.{Atom, Node, Reading, reads, faulty, read-node, write-node, node-fits, nodes-rules}
-use Rattle.rules.specs.Datum.{Datum, Data, atom, pair, vector, def, end, more, how-many, nodes, all-nodes, encode, Parsed, parsed, fault, then, of-node, datum-at, data-at, Parse, good, bad, whole, parse, datum-fits, datum-rules}
+use Rattle.rules.specs.Refusals.{Fault}
+use Rattle.rules.specs.Nodes.{Node, Reading, reads, faulty, read-node, write-node, node-fits}
+use Rattle.rules.specs.Datum.{Datum, Data, atom, pair, vector, def, end, more, how-many, nodes, all-nodes, encode, Parsed, parsed, fault, then, of-node, datum-at, data-at, good, bad, whole, parse, datum-fits, datum-rules}
 use Rattle.rules.proofs.Nodes.{read-written, was-written, Was, write-positive}
 
 -- the bytes of a list of nodes
@@ -276,7 +275,7 @@ record Parsed-good (bs : List ℕ) (d : Datum) : Type 0 where
   bytes : bs ≡ encode d
   fits : datum-fits d ≡ true
 
-good-value : {d e : Datum} → good d ≡ good e → d ≡ e
+pub good-value : {d e : Datum} → good d ≡ good e → d ≡ e
 good-value e = cc
 
 bad-good : {d : Datum} {x : Fault} {k : ℕ} → bad x k ≡ good d → ⊥

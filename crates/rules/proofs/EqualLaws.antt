@@ -3,16 +3,17 @@
 use mathlib.Core.Path.{_≡_, refl, sym, ap, _∙_, subst}
 use mathlib.Core.Bool.{Bool, true, false}
 use mathlib.Core.List.{List, [], _∷_, _++_, List·Memᴰ, List·Memᴰ·head, List·Memᴰ·tail, List·Memᴰ·cases-cons, List·Memᴰ·append-cases, List·Memᴰ·not-nil, List·Memᴰ·eq-of-singleton, Memᴰ·append-left, Memᴰ·append-right}
-use mathlib.Core.Option.{Option, none, some}
+use mathlib.Core.Option.{Option, some}
 use mathlib.Core.Logic.{_⊎_, inl, inr, ⊎-elim}
 use Prim.Native.Nat.{ℕ, zero, suc}
 use native.Mathlib.Omega.{arith}
 use Prim.Native.Nat.{_+_, _<_}
 use lib.ListN.{getD, List·getD-append}
 use lib.Seq.{getD-append-add}
-use Rattle.laws.specs.Basics.{any, same, basics}
+use Rattle.laws.specs.Basics.{any, basics}
 use Rattle.laws.proofs.Tests.{either-cases, same-equal, true≢false}
-use Rattle.rules.specs.Cells.{Value, slot, scalar}
+use Rattle.laws.proofs.Options.{none-some, some-value}
+use Rattle.rules.specs.Cells.{Value}
 use Rattle.rules.specs.Heap.{Heap}
 use Rattle.rules.specs.Layout.{value-words, value-from, layout-rules}
 use Rattle.rules.specs.Equal.{Goal, alike, walks, Step, fails, needs, step, Fails, now, later, Equal, goal-words, same-goal, run, equal-by, equal-rules}
@@ -61,12 +62,6 @@ any-same g (m ∷ met) e =
 
 -- ---- no
 
-some-same : {A : Type 0} {a b : A} → some a ≡ some b → a ≡ b
-some-same e = cc
-
-some-none : {A : Type 0} {a : A} → none ≡ some a → ⊥
-some-none e = let z : _≡_ {A = ℕ} 0 1 = cc in omega arith
-
 -- a goal of the list fails
 record Failing (h : Heap) (gs : List Goal) : Type 0 where
   goal : Goal
@@ -92,8 +87,8 @@ module _ (h : Heap) where
 
   run-no : (n : ℕ) (met todo : List Goal) → run n h met todo ≡ some false → Failing h todo
   unfolding equal-rules
-  run-no zero met todo e = absurd (some-none e)
-  run-no (suc n) met [] e = absurd (true≢false (some-same e))
+  run-no zero met todo e = absurd (none-some e)
+  run-no (suc n) met [] e = absurd (true≢false (some-value e))
   run-no (suc n) met (g ∷ todo) e = no-skip n g met todo (λ met todo e. run-no n met todo e) (any (same-goal g) met) e
 
   -- ---- yes
@@ -108,7 +103,7 @@ module _ (h : Heap) where
 
   module _ (n : ℕ) (g : Goal) (met todo : List Goal) (rest : (met todo : List Goal) → run n h met todo ≡ some true → Settled met todo) where
     yes-step : (s : Step) → step h g ≡ s → elim s as (λ x. Option Bool) [ fails ↦ some false | needs gs ↦ run n h (g ∷ met) (gs ++ todo) ] ≡ some true → Settled met (g ∷ todo)
-    yes-step fails q e = absurd (true≢false (sym (some-same e)))
+    yes-step fails q e = absurd (true≢false (sym (some-value e)))
     yes-step (needs gs) q e =
         let r = rest (g ∷ met) (gs ++ todo) e in
         record {
@@ -149,7 +144,7 @@ module _ (h : Heap) where
 
   run-yes : (n : ℕ) (met todo : List Goal) → run n h met todo ≡ some true → Settled met todo
   unfolding equal-rules
-  run-yes zero met todo e = absurd (some-none e)
+  run-yes zero met todo e = absurd (none-some e)
   run-yes (suc n) met [] e =
       record { all = met; before = λ g m. m; listed = λ g m. absurd (List·Memᴰ·not-nil m); closed = λ g m. inl m }
   run-yes (suc n) met (g ∷ todo) e =

@@ -1,17 +1,17 @@
 -- The parse as one pass over the nodes: a count of the data still wanted takes the place of the tree. What the pass finds
 -- is what `datum-at` finds, fault and node too. Assumes nothing.
-use mathlib.Core.Path.{_≡_, refl, sym, ap, _∙_, subst}
-use mathlib.Core.Bool.{Bool, true, false}
+use mathlib.Core.Path.{_≡_, refl, sym, ap, _∙_}
+use mathlib.Core.Bool.{true}
 use mathlib.Core.List.{List, [], _∷_, _++_, append-assoc, append-nil}
 use Prim.Native.Nat.{ℕ, zero, suc, _+_, _*_, _≤_, _<_}
 use native.Mathlib.Omega.{arith}
 use native.Mathlib.Nat.{zero-add, suc-add}
 use lib.ListN.{length, length-append}
 use Rattle.laws.proofs.Bytes.{all-bytes}
-use Rattle.rules.specs.Refusals.{Fault, cut-short}
-use Rattle.rules.specs.Nodes.{Atom, Node, Reading, reads, faulty, read-node, write-node, nodes-rules}
-use Rattle.rules.specs.Datum.{Datum, Data, atom, pair, vector, def, end, more, nodes, all-nodes, Parsed, parsed, fault, then, of-node, datum-at, data-at, Parse, good, bad, whole, parse, datum-rules}
-use Rattle.rules.proofs.Nodes.{was-written, Was, write-positive}
+use Rattle.rules.specs.Refusals.{cut-short}
+use Rattle.rules.specs.Nodes.{Node, Reading, reads, faulty, read-node, write-node}
+use Rattle.rules.specs.Datum.{Datum, Data, atom, pair, vector, def, end, more, nodes, all-nodes, Parsed, parsed, fault, then, of-node, datum-at, data-at, datum-rules}
+use Rattle.rules.proofs.Nodes.{was-written, write-positive}
 use Rattle.rules.proofs.Datum.{datum-rest, data-count}
 
 -- how many data follow a node

@@ -2,7 +2,7 @@
 -- bound: past the capacity a slot is Free and shows Undefined, and past the room an element is Undefined. "Growth reaches
 -- the capacity" is said with no bound on the steps, so that allocating keeps it; within 4,096 slots the two are the same.
 -- Document 01, "A heap is sound when". Assumes nothing.
-use mathlib.Core.Path.{_≡_, refl, sym, ap, _∙_, subst}
+use mathlib.Core.Path.{_≡_, refl, sym, ap, _∙_}
 use mathlib.Core.Bool.{Bool, true, false, not}
 use mathlib.Core.List.{List, [], _∷_, _++_, map}
 use mathlib.Core.Logic.{⊎-elim}
@@ -10,10 +10,10 @@ use Prim.Native.Nat.{ℕ, zero, suc, _+_, _-_, _/_, _%_, _≤_, _<_}
 use native.Mathlib.Omega.{arith}
 use native.Mathlib.Decide.{decLt, ℕ-discrete}
 use borrow.Author.Tests.{ltb-true, leb-true, eqb-true, lt-ltb, le-leb, eq-eqb, ne-eqb}
-use lib.Dec.{T, eqb, leb, ltb}
+use lib.Dec.{eqb, leb, ltb}
 use lib.ListN.{length, getD, length-map, length-append, List·getD-eq-default}
 use Rattle.laws.specs.Basics.{choose, either, every, count, basics}
-use Rattle.laws.proofs.Tests.{true≢false, both-left, both-right, both-true, either-cases, either-left, either-right, below-all, all-below, every-append}
+use Rattle.laws.proofs.Tests.{true≢false, both-left, both-right, both-true, either-cases, either-left, either-right, below-all, all-below, every-append, is-true}
 use Rattle.laws.proofs.Sums.{sum-below, length-by-count}
 use Rattle.laws.proofs.Pointwise.{every-all, all-every, every-at, count-past, count-here, count-other, count-append, past-count, getD-part, length-part}
 use Rattle.rules.specs.Map.{state-of, is-allocated, map-rules}
@@ -320,9 +320,6 @@ sum-at-most : (n : ℕ) (f : ℕ → ℕ) → ((k : ℕ) → k < n → f k ≤ 1
 unfolding sum-below
 sum-at-most zero f p = omega arith
 sum-at-most (suc n) f p = omega (arith, p n (omega arith), sum-at-most n f (λ k l. p k (omega arith)))
-
-is-true : {b : Bool} → b ≡ true → T b
-is-true {b} e = subst (λ (x : Bool). T x) (sym e) tt
 
 pub each-once : (n : ℕ) (l : List ℕ) → every (λ x. ltb x n) l ≡ true → ((k : ℕ) → k < n → count k l ≤ 1) → length l ≤ n
 each-once n l e p = omega (arith, length-by-count n l (is-true e), sum-at-most n (λ k. count k l) p)

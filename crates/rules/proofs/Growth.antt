@@ -10,7 +10,7 @@ use native.Mathlib.Decide.{decLe, decLt}
 use borrow.Author.Tests.{le-leb, lt-leb, eqb-true, eq-eqb, ne-eqb}
 use lib.Dec.{eqb}
 use Rattle.laws.specs.Basics.{either}
-use Rattle.laws.proofs.Tests.{either-cases, either-right}
+use Rattle.laws.proofs.Tests.{either-cases, either-right, either-false}
 use Rattle.rules.specs.Heap.{grown, fitting, reaches, most-growths}
 
 -- ---- one step
@@ -298,10 +298,6 @@ fours chunk size f w =
     let e : size ≡ 4 * (w .chunks * q) = w .is ∙ ap (λ (n : ℕ). w .chunks * n) c ∙ mul-left-comm (w .chunks) 4 q in
     omega arith
 
-either-none : (b : Bool) → either b false ≡ b
-either-none true = refl
-either-none false = refl
-
 -- ---- "growth reaches the capacity" after growing too
 
 reaches-more : (n chunk goal size : ℕ) → reaches n chunk goal size ≡ true → reaches (suc n) chunk (grown chunk goal) size ≡ true
@@ -320,7 +316,7 @@ reaches-enough : (chunk goal : ℕ) → 0 < chunk → (n k : ℕ) → goal < ste
 unfolding reaches steps
 reaches-enough chunk goal p zero k h =
     ap (either (eqb (k * chunk) goal)) (ne-eqb (grown chunk (k * chunk)) goal (λ e. omega (arith, grown-chunks chunk k p)))
-    ∙ either-none (eqb (k * chunk) goal)
+    ∙ either-false (eqb (k * chunk) goal)
 reaches-enough chunk goal p (suc n) k h =
     ap (either (eqb (k * chunk) goal))
     (subst (λ (size : ℕ). reaches (suc n) chunk goal size ≡ reaches n chunk goal size) (sym (grown-chunks chunk k p))

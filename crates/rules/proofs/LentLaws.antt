@@ -2,20 +2,21 @@
 -- rooms with it. Assumes nothing.
 use mathlib.Core.Path.{_≡_, refl, sym, ap, _∙_, subst}
 use mathlib.Core.Bool.{Bool, true, false}
-use mathlib.Core.List.{List, [], _∷_, _++_, map, reverse, reverse-reverse}
-use Prim.Native.Nat.{ℕ, zero, suc, _+_, _-_, _*_, _/_, _%_, _≤_, _<_}
+use mathlib.Core.List.{List, [], _∷_, _++_, map, reverse, reverse-reverse, append-assoc}
+use Prim.Native.Nat.{ℕ, _+_, _-_, _*_, _/_, _%_, _≤_, _<_}
 use native.Mathlib.Omega.{arith}
 use native.Mathlib.Decide.{decLt}
-use borrow.Author.Tests.{eq-eqb, ne-eqb}
+use borrow.Author.Tests.{eq-eqb}
 use lib.Dec.{eqb}
-use lib.ListN.{length, getD, take, drop, length-append, length-reverse, List·getD-append}
+use lib.ListN.{length, getD, take, length-append, length-reverse, List·getD-append}
 use lib.Seq.{take-at, getD-append-add, ext-getD}
-use Rattle.laws.specs.Basics.{choose, both, join, rising, zeros, same, basics}
+use Rattle.laws.specs.Basics.{join, rising, zeros}
 use Rattle.laws.proofs.Tests.{both-true, same-refl}
-use Rattle.laws.proofs.Lists.{length-zeros, getD-zeros, length-rising, getD-rising, told-again, length-rows, getD-rows}
-use Rattle.rules.specs.Cells.{Scalar, undefined, nil, eof, void, bool, char, number, Value, slot, scalar, Block, block, Cell, plain, pair, symbol, string, vector, bit}
+use Rattle.laws.proofs.Lists.{length-zeros, length-rising, getD-rising, told-again, length-rows, getD-rows}
+use Rattle.laws.proofs.Zeros.{zeros-append}
+use Rattle.rules.specs.Cells.{Scalar, undefined, nil, eof, void, bool, char, number, Value, slot, scalar, Cell, plain, pair, symbol, string, vector, bit}
 use Rattle.rules.specs.Heap.{Heap, Entry, capacity, cell-at}
-use Rattle.rules.specs.Layout.{Lent, Rooms, rooms-of, map-bytes, whole-rooms, scalar-words, cell-words, value-words, header-words, entry-at, row-words, words-of, filled, lent-of, scalar-from, cell-from, value-from, header, row, element, heap-of, same-lent, layout-rules}
+use Rattle.rules.specs.Layout.{Lent, Rooms, rooms-of, map-bytes, whole-rooms, scalar-words, cell-words, value-words, header-words, entry-at, row-words, words-of, filled, lent-of, cell-from, value-from, row, element, heap-of, same-lent, layout-rules}
 
 -- the heap is within the rooms, and its map is that of its capacity
 pub record Fits (r : Rooms) (h : Heap) : Type 0 where
@@ -147,6 +148,14 @@ words-again slots h ws size heads rows =
 pub filled-length : (room : ℕ) (l : List ℕ) → length l ≤ room → length (filled room l) ≡ room
 unfolding layout-rules
 filled-length room l h = omega (arith, length-append l (zeros (room - length l)), length-zeros (room - length l))
+
+-- zeros at the end of what is in use
+pub filled-zeros : (room : ℕ) (l : List ℕ) (k : ℕ) → length l + k ≤ room → filled room (l ++ zeros k) ≡ filled room l
+unfolding layout-rules
+filled-zeros room l k fits =
+    let rest = room - length (l ++ zeros k) in
+    let whole : k + rest ≡ room - length l = omega (arith, length-append l (zeros k), length-zeros k) in
+    append-assoc l (zeros k) (zeros rest) ∙ ap (λ (z : List ℕ). l ++ z) (zeros-append k rest ∙ ap zeros whole)
 
 pub take-filled : (room n : ℕ) (l : List ℕ) → length l ≡ n → take n (filled room l) ≡ l
 unfolding layout-rules

@@ -1,21 +1,21 @@
 -- A node's bytes read back as that node, and what is read is written back as the same bytes. Assumes nothing.
 use mathlib.Core.Path.{_≡_, refl, sym, ap, _∙_, subst}
 use mathlib.Core.Bool.{Bool, true, false}
-use mathlib.Core.List.{List, [], _∷_, _++_, append-assoc, append-nil}
-use Prim.Native.Nat.{ℕ, zero, suc, _+_, _*_, _^_, _≤_, _<_}
+use mathlib.Core.List.{List, [], _∷_, _++_, append-assoc}
+use Prim.Native.Nat.{ℕ, zero, suc, _^_, _≤_, _<_}
 use native.Mathlib.Omega.{arith}
 use mathlib.Core.Logic.{⊎-elim}
 use borrow.Author.Tests.{leb-true, ltb-true, ltb-false, lt-ltb, le-ltb}
 use lib.Dec.{leb, ltb}
 use lib.ListN.{length, getD, take, drop, length-append, take-append-drop}
 use lib.Seq.{take-at, drop-at, length-take-le}
-use Rattle.laws.specs.Basics.{choose, both, every, little, big, basics}
-use Rattle.laws.proofs.Tests.{true≢false, both-left, both-right, both-true, either-cases, every-append, every-front, every-back}
-use Rattle.laws.proofs.Bytes.{all-bytes, length-little, bytes-little, big-little, little-big, big-bound}
-use Rattle.rules.specs.Numbers.{bits32, bits64}
+use Rattle.laws.specs.Basics.{choose, every, little, big}
+use Rattle.laws.proofs.Tests.{both-left, both-right, both-true, either-cases, every-front, every-back}
+use Rattle.laws.proofs.Bytes.{all-bytes, length-little, big-little, little-big, big-bound}
+use Rattle.rules.specs.Numbers.{bits32}
 use Rattle.rules.specs.Refusals.{Fault, cut-short, unknown-kind, bad-char, bad-utf8}
 use Rattle.rules.specs.Utf8.{utf8, scalar-value, utf8-rules}
-use Rattle.rules.specs.Cells.{Scalar, undefined, nil, eof, void, bool, char, number, bit}
+use Rattle.rules.specs.Cells.{Scalar, undefined, nil, eof, void, bool, char, number}
 use Rattle.rules.specs.Nodes.{Atom, plain, string, symbol, ident, ref, Node, atom, pair, vector, def, Reading, reads, faulty, part, field, checked-text, text, bool-node, char-node, kinds, read-node, write-text, write-scalar, write-atom, write-node, text-fits, scalar-fits, node-fits, nodes-rules}
 
 -- ---- a choice whose test is known

@@ -2,7 +2,7 @@
 -- as it was. Document 01, "Slots and growth". Assumes nothing.
 use mathlib.Core.Path.{_≡_, refl, sym, ap, _∙_, subst}
 use mathlib.Core.Bool.{Bool, true, false, not}
-use mathlib.Core.List.{List, [], _∷_, _++_}
+use mathlib.Core.List.{List, [], _++_}
 use mathlib.Core.Option.{Option, none, some}
 use Prim.Native.Nat.{ℕ, _+_, _≤_, _<_}
 use native.Mathlib.Omega.{arith}
@@ -14,6 +14,7 @@ use lib.Seq.{drop-append-seam, take-length}
 use Rattle.laws.specs.Basics.{choose, both, same}
 use Rattle.laws.proofs.Tests.{true≢false, both-left, both-true, either-left, either-right}
 use Rattle.laws.proofs.Pointwise.{find-some, find-none}
+use Rattle.laws.proofs.Lists.{no-elements}
 use Rattle.rules.specs.Numbers.{bits32, most-string, most-name}
 use Rattle.rules.specs.Utf8.{utf8}
 use Rattle.rules.specs.Cells.{Scalar, Value, slot, scalar, Block, block, Cell, plain, pair, symbol, string, vector, is-symbol}
@@ -118,14 +119,10 @@ behind-lies n m b (nothing e z) l =
 behind-lies n m b (after p e) l =
     both-true (le-leb (b .place + b .size) m (omega arith)) (either-left _ (ap not (ne-eqb (b .size) 0 (λ z. omega arith))))
 
-length-none : (t : List ℕ) → length t ≡ 0 → t ≡ []
-length-none [] e = refl
-length-none (x ∷ t) e = absurd (omega arith)
-
 -- a text that was added is read back
 pub text-behind : (h : Heap) (t : List ℕ) (b : Block) → b .size ≡ length t → Behind (length (h .bytes)) b → text-of (with-bytes h t) b ≡ t
 text-behind h t b s (nothing e z) =
-    ap (λ (n : ℕ). take n (drop (b .place) (h .bytes ++ t))) e ∙ sym (length-none t (omega arith))
+    ap (λ (n : ℕ). take n (drop (b .place) (h .bytes ++ t))) e ∙ sym (no-elements t (omega arith))
 text-behind h t b s (after p e) =
     (λ i. take (s i) (drop (e i) (h .bytes ++ t))) ∙ ap (take (length t)) (drop-append-seam (h .bytes) t) ∙ take-length t
 

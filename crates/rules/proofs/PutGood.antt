@@ -11,8 +11,8 @@ use borrow.Author.Tests.{eq-eqb, ne-eqb, leb-true, ltb-true, le-leb, not-false}
 use lib.Dec.{eqb, leb, ltb}
 use lib.Seq.{ext-getD}
 use lib.ListN.{length, getD, replicate, length-append, length-replicate, getD-replicate}
-use Rattle.laws.specs.Basics.{choose, either, every, find, member, basics}
-use Rattle.laws.proofs.Tests.{true≢false, both-left, both-right, every-front, every-back}
+use Rattle.laws.specs.Basics.{choose, every, find, member, basics}
+use Rattle.laws.proofs.Tests.{true≢false, both-left, both-right, every-front, every-back, either-right-false, either-left-false, either-by}
 use Rattle.laws.proofs.Pointwise.{every-same, getD-part, length-part}
 use Rattle.rules.specs.Numbers.{bits32, most-string, most-name, most-vector}
 use Rattle.rules.specs.Utf8.{utf8}
@@ -104,14 +104,6 @@ unfoldable mutual
   pub begun-all : Data → List ℕ → List ℕ
   begun-all end b = b
   begun-all (more d ds) b = begun-all ds (begun-by d b)
-
-either-right-false : (a b : Bool) → either a b ≡ false → b ≡ false
-either-right-false true b e = absurd (true≢false e)
-either-right-false false b e = e
-
-pub either-left-false : (a b : Bool) → either a b ≡ false → a ≡ false
-either-left-false true b e = absurd (true≢false e)
-either-left-false false b e = refl
 
 -- what is left refers to no label that is not begun by then
 mutual
@@ -321,14 +313,13 @@ module _ (m : Making) (g : Good (m .heap)) (n : ℕ) where
 
 -- a label's slot, with the cell of what was put in it
 module _ (l : ℕ) (m : Making) (g : Good (m .heap)) where
-  first : Given
+  abbrev first : Given
   first = alloc (m .heap)
 
   first-took : Took (m .heap) first
-  unfolding first
   first-took = took (m .heap) g
 
-  first-labels : (begun : List ℕ) → Labels begun m → Labels (l ∷ begun) (labelled l first m)
+  pub first-labels : (begun : List ℕ) → Labels begun m → Labels (l ∷ begun) (labelled l (alloc (m .heap)) m)
   unfolding labelled basics
   first-labels begun ls k e =
       elim (ℕ-discrete k l) [
@@ -339,10 +330,6 @@ module _ (l : ℕ) (m : Making) (g : Good (m .heap)) where
             ap (in-use (first .heap)) (labelled-other l (first .slot) k (m .labels) d)
             ∙ first-took .used (slot-of k (m .labels)) (ls k (either-by (eqb k l) (ne-eqb k l d) e))
       ]
-    where
-      either-by : (a : Bool) {b : Bool} → a ≡ false → either a b ≡ true → b ≡ true
-      either-by true p q = absurd (true≢false p)
-      either-by false p q = q
 
   def-done : (begun : List ℕ) (p : Put) → Put-done (length (first .heap .elements)) begun (labelled l first m) p → Put-done (length (m .heap .elements)) begun m (end-label (first .slot) p)
   unfolding labelled end-label sound-rules
@@ -371,7 +358,7 @@ module _ (l : ℕ) (m : Making) (g : Good (m .heap)) where
 -- ---- the induction
 
 mutual
-  unfolding begun-by begun-all put-rules datum-rules basics first
+  unfolding begun-by begun-all put-rules datum-rules basics
 
   pub put-done : (d : Datum) (m : Making) (begun : List ℕ) (rest : List Node) → Good (m .heap) → Labels begun m → every node-fits (nodes d) ≡ true → every node-within (nodes d) ≡ true → refers-early begun (nodes d ++ rest) ≡ false → Put-done (length (m .heap .elements)) (begun-by d begun) m (put d m)
   put-done (Datum.atom a) m begun rest g ls f w e =
@@ -430,7 +417,7 @@ mutual
 
 -- ---- a whole put
 
-no-labels : (h : Heap) → Labels [] (making h [])
+pub no-labels : (h : Heap) → Labels [] (making h [])
 unfolding basics
 no-labels h l e = absurd (true≢false (sym e))
 

@@ -10,7 +10,7 @@ use borrow.Author.Tests.{eqb-true, leb-true, not-false, eq-eqb}
 use lib.Dec.{eqb, leb}
 use lib.ListN.{length}
 use Rattle.laws.specs.Basics.{choose, either, join, member, distinct, basics}
-use Rattle.laws.proofs.Tests.{true≢false, both-left, both-right, either-right, join-append}
+use Rattle.laws.proofs.Tests.{both-left, both-right, either-right, join-append, either-left-false}
 use Rattle.laws.proofs.Members.{eqb-sym, member-end, member-of, add, adds, add-known, add-new, adds-distinct}
 use Rattle.rules.specs.Numbers.{most-labels, most-nodes}
 use Rattle.rules.specs.Cells.{Value, slot, scalar}
@@ -18,7 +18,7 @@ use Rattle.rules.specs.Nodes.{Atom, Node}
 use Rattle.rules.specs.Datum.{Datum, Data, end, more, how-many, nodes, all-nodes, label-of, within-limits, refers-early, early-reference, datum-rules}
 use Rattle.rules.specs.Heap.{Heap, Entry, found, block-after}
 use Rattle.rules.specs.Put.{Put, Making, Label, making, in-slot, with-label, make-symbol, put-symbol, begin-label, labelled, with-block, store-at, put-atom, put, put-all, put-datum, put-rules}
-use Rattle.rules.proofs.PutGood.{begun-by, begun-all, either-left-false, later}
+use Rattle.rules.proofs.PutGood.{begun-by, begun-all, later}
 
 -- ---- the labels' names
 

@@ -2,11 +2,11 @@
 -- Assumes nothing.
 use mathlib.Core.Path.{_≡_, refl}
 use mathlib.Core.Bool.{true, false}
-use mathlib.Core.List.{List, [], _∷_, _++_}
+use mathlib.Core.List.{List, [], _∷_}
 use mathlib.Core.Option.{some}
 use Rattle.laws.specs.Basics.{ascii, basics}
 use Rattle.rules.specs.Refusals.{accepted, refused, no-slots}
-use Rattle.rules.specs.Cells.{undefined, number, slot, Cell, plain, pair, vector, block}
+use Rattle.rules.specs.Cells.{undefined, slot, plain, pair, vector, block}
 use Rattle.rules.specs.Nodes.{Atom}
 use Rattle.rules.specs.Datum.{Datum}
 use Rattle.rules.specs.Readings.{Result, answers, sizes, taken, free-list, text, read-back, byte, equals, same-object, readings, readings-rules, num, foo, empty, after-both, root, second-root}

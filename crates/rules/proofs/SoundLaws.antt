@@ -2,27 +2,29 @@
 -- by the map agree on a sound heap. Assumes nothing.
 use mathlib.Core.Path.{_≡_, refl, sym, ap, _∙_, subst}
 use mathlib.Core.Bool.{Bool, true, false, not}
-use mathlib.Core.List.{List, [], _∷_, _++_, map, reverse}
+use mathlib.Core.List.{map}
 use mathlib.Core.Logic.{⊎-elim}
-use Prim.Native.Nat.{ℕ, zero, suc, _+_, _-_, _*_, _/_, _%_, _^_, _≤_, _<_}
+use Prim.Native.Nat.{ℕ, zero, suc, _+_, _*_, _/_, _%_, _^_, _≤_}
 use native.Mathlib.Nat.{zero-mul, suc-mul, zero-div}
 use native.Mathlib.Decide.{decLt}
 use native.Mathlib.Omega.{arith}
-use borrow.Author.Tests.{leb-true, ltb-true, eqb-true, eq-eqb, le-leb, lt-ltb}
-use lib.Dec.{T, eqb, leb, ltb}
-use lib.ListN.{length, getD, take, List·getD-eq-default, replicate, length-map, length-reverse, length-replicate, getD-replicate}
+use borrow.Author.Tests.{leb-true, eqb-true, eq-eqb, le-leb}
+use lib.Dec.{eqb, leb, ltb}
+use lib.ListN.{length, List·getD-eq-default, replicate, length-map, length-reverse, length-replicate, getD-replicate}
 use lib.Seq.{length-take-le}
-use Rattle.laws.specs.Basics.{choose, both, either, between, every, every-below, count, rising, zeros, same, basics}
-use Rattle.laws.proofs.Tests.{both-left, both-right, both-true, either-cases, either-left, either-right, below-all, all-below, same-equal}
-use Rattle.laws.proofs.Lists.{length-zeros, getD-zeros, length-rising, getD-rising, count-rising-in}
-use Rattle.laws.proofs.Sums.{sum-below, sum-below-same, sum-below-ones, length-by-count}
+use Rattle.laws.specs.Basics.{choose, either, between, every, count, rising, same}
+use Rattle.laws.proofs.Tests.{both-left, both-right, both-true, either-cases, either-left, either-right, below-all, all-below, same-equal, is-true}
+use Rattle.laws.proofs.Lists.{length-zeros, getD-zeros, length-rising, count-rising-in}
+use Rattle.laws.proofs.Sums.{sum-below, sum-below-ones, length-by-count}
+use Rattle.laws.proofs.Pointwise.{every-same}
+use Rattle.laws.proofs.Zeros.{rising-below}
 use Rattle.rules.specs.Numbers.{least-slots, most-slots, most-bytes, most-elements, chunk-allowed, numbers}
-use Rattle.rules.specs.Refusals.{Answer, accepted, refused, bad-setup}
-use Rattle.rules.specs.Map.{state-of, is-allocated, set-low-bits, Free, Allocated, map-rules}
-use Rattle.rules.specs.Cells.{Scalar, undefined, Value, Block, block, Cell, plain}
+use Rattle.rules.specs.Refusals.{accepted, refused, bad-setup}
+use Rattle.rules.specs.Map.{state-of, is-allocated, map-rules}
+use Rattle.rules.specs.Cells.{undefined, Value, Block, block, Cell, plain}
 use Rattle.rules.specs.Heap.{Heap, Entry, capacity, cell-at, grown, reaches, most-growths, used-count, used-by-map, fresh, heap-rules}
 use Rattle.rules.specs.Layout.{Lent, Rooms, rooms-of, map-bytes, whole-rooms, header, row, element, value-from, heap-of, lent-of, same-lent, layout-rules}
-use Rattle.rules.specs.Sound.{Sound, setup-numbers, counts-within, cell-allowed, cells-allowed, named-in-use, capacity-grown, is-free, states-settled, free-once, is-undefined, free-undefined, lies-in, names-in-use, blocks-sound, text-block, vector-block, table-sound, heap-sound, written-out, sound, sound-rules}
+use Rattle.rules.specs.Sound.{Sound, setup-numbers, counts-within, cell-allowed, cells-allowed, named-in-use, capacity-grown, is-free, states-settled, free-once, is-undefined, free-undefined, lies-in, names-in-use, blocks-sound, text-block, vector-block, heap-sound, sound, sound-rules}
 use Rattle.rules.specs.Calls.{setup, Set-up, call-rules}
 use Rattle.rules.proofs.LentLaws.{Fits, rooms-lent, whole-lent, heap-lent, same-lent-refl}
 use Rattle.rules.proofs.TwoBits.{low-bit, by-slots}
@@ -86,9 +88,6 @@ grown-whole (suc n) chunk goal size c s e =
     (either-cases (eqb size goal) _ e)
 
 -- ---- the two used counts
-
-is-true : {b : Bool} → b ≡ true → T b
-is-true {b} e = subst (λ (x : Bool). T x) (sym e) tt
 
 -- a slot that is Free or Allocated: its low bit and its count on the free list make 1
 one-each : (h : Heap) (s : ℕ) → either (is-free h s) (is-allocated (h .map) s) ≡ true → count s (h .free) ≡ choose (is-free h s) 1 0 → low-bit (h .map) s + count s (h .free) ≡ 1
@@ -271,16 +270,6 @@ written-sound r h fits n free table good =
 
 -- ---- a fresh heap is sound
 
-every-replicate : {A : Type 0} (f : A → Bool) (n : ℕ) (a : A) → f a ≡ true → every f (replicate n a) ≡ true
-unfolding basics
-every-replicate f zero a e = refl
-every-replicate f (suc n) a e = both-true e (every-replicate f n a e)
-
-every-rising : (a n bound : ℕ) → a + n ≤ bound → every (λ s. ltb s bound) (rising a n) ≡ true
-unfolding basics
-every-rising a zero bound h = refl
-every-rising a (suc n) bound h = both-true (lt-ltb a bound (omega arith)) (every-rising (suc a) n bound (omega arith))
-
 module _ (chunk : ℕ) where
   fresh-capacity : capacity (fresh chunk) ≡ chunk
   unfolding heap-rules
@@ -307,7 +296,7 @@ module _ (chunk : ℕ) where
 
   fresh-allowed : cells-allowed (fresh chunk) ≡ true
   unfolding sound-rules heap-rules
-  fresh-allowed = both-true (every-replicate (cell-allowed (fresh chunk)) chunk (plain undefined) refl) refl
+  fresh-allowed = both-true (every-same (cell-allowed (fresh chunk)) chunk (plain undefined) refl) refl
 
   fresh-grown : capacity-grown (fresh chunk) ≡ true
   unfolding sound-rules heap-rules
@@ -322,7 +311,7 @@ module _ (chunk : ℕ) where
   fresh-once : free-once (fresh chunk) ≡ true
   unfolding sound-rules heap-rules
   fresh-once =
-      both-true (every-rising 0 chunk (capacity (fresh chunk)) (omega (arith, fresh-capacity)))
+      both-true (rising-below 0 chunk (capacity (fresh chunk)) (omega (arith, fresh-capacity)))
       (all-below (λ s. eqb (count s (fresh chunk .free)) (choose (is-free (fresh chunk) s) 1 0)) (capacity (fresh chunk))
       (λ s small.
       eq-eqb (count s (fresh chunk .free)) (choose (is-free (fresh chunk) s) 1 0)
@@ -336,14 +325,14 @@ module _ (chunk : ℕ) where
 
   fresh-named : names-in-use (fresh chunk) ≡ true
   unfolding sound-rules heap-rules
-  fresh-named = every-replicate (named-in-use (fresh chunk)) chunk (plain undefined) refl
+  fresh-named = every-same (named-in-use (fresh chunk)) chunk (plain undefined) refl
 
   fresh-blocks : (shows : Cell → Block) → shows (plain undefined) ≡ block 0 0 → blocks-sound 0 shows (fresh chunk) ≡ true
   unfolding sound-rules heap-rules
   fresh-blocks shows e =
-      both-true (every-replicate _ chunk (plain undefined) (ap (lies-in 0) e))
-      (every-replicate _ chunk (plain undefined)
-      (every-replicate _ chunk (plain undefined) (either-left _ (ap (λ (b : Block). eqb (b .size) 0) e))))
+      both-true (every-same _ chunk (plain undefined) (ap (lies-in 0) e))
+      (every-same _ chunk (plain undefined)
+      (every-same _ chunk (plain undefined) (either-left _ (ap (λ (b : Block). eqb (b .size) 0) e))))
 
   pub fresh-sound : heap-sound (fresh chunk) ≡ true
   unfolding sound-rules heap-rules

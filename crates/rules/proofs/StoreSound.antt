@@ -1,25 +1,23 @@
--- The two stores leave sound lists, and refused they leave them as they were; so does a refused collection. Document 01:
--- "each accepted call keeps it so", "A refusal answers its number only, and leaves heap and output as they stood". Assumes
--- nothing.
+-- The two stores leave sound lists, and refused they leave them as they were. Document 01: "each accepted call keeps it so",
+-- "A refusal answers its number only, and leaves heap and output as they stood". Assumes nothing.
 use mathlib.Core.Path.{_≡_, refl, sym, ap, _∙_, subst}
 use mathlib.Core.Bool.{Bool, true, false, not}
-use mathlib.Core.List.{List, [], _∷_}
+use mathlib.Core.List.{[], _∷_}
 use mathlib.Core.Option.{Option, none, some}
 use Prim.Native.Nat.{ℕ, zero, suc}
 use native.Mathlib.Omega.{arith}
 use borrow.Author.Tests.{not-true, not-false}
-use lib.Dec.{eqb, ltb}
+use lib.Dec.{eqb}
 use lib.ListN.{length, length-set}
-use Rattle.laws.specs.Basics.{choose, both, every}
+use Rattle.laws.specs.Basics.{choose, both}
 use Rattle.laws.proofs.Tests.{true≢false, both-left, both-right}
-use Rattle.rules.specs.Refusals.{Refusal, unsound, short-scratch, malformed, bad-char, no-such-slot, wrong-cell, Answer, accepted, refused, _⇒_, unless}
-use Rattle.rules.specs.Numbers.{scratch-words}
+use Rattle.rules.specs.Refusals.{Refusal, unsound, malformed, bad-char, no-such-slot, wrong-cell, Answer, accepted, refused, _⇒_, unless}
 use Rattle.rules.specs.Utf8.{scalar-value}
 use Rattle.rules.specs.Cells.{Scalar, Value, slot, scalar, Cell, plain, pair, symbol, string, vector, is-symbol}
 use Rattle.rules.specs.Heap.{Heap, capacity, cell-at, in-use, with-cell, with-element}
 use Rattle.rules.specs.Layout.{Lent, rooms-of, heap-of, lent-of, header, entry-at, layout-rules, slot-kind}
 use Rattle.rules.specs.Sound.{scalar-allowed, value-allowed, value-named, sound, sound-rules}
-use Rattle.rules.specs.Calls.{Left, checked, collect-call, Stored, stored, given-bool, given-char, given-scalar, of-answer, given-value, pair-kind, given-cell, value-in-use, cell-in-use, cell-store, element-place, store-element, element-store, call-rules}
+use Rattle.rules.specs.Calls.{Stored, stored, given-bool, given-char, given-scalar, of-answer, given-value, pair-kind, given-cell, value-in-use, cell-in-use, cell-store, element-place, store-element, element-store, call-rules}
 use Rattle.rules.proofs.LentLaws.{heap-lent}
 use Rattle.rules.proofs.SoundLaws.{clauses, sound-fits, Numbered, numbered}
 use Rattle.rules.proofs.Good.{Good}
@@ -102,7 +100,7 @@ storable-fits h (symbol b) e u = absurd (true≢false (sym e))
 storable-fits h (string b) e u = absurd (true≢false (sym e))
 storable-fits h (vector b) e u = absurd (true≢false (sym e))
 
-named-value : (h : Heap) (v : Value) → value-in-use h v ≡ true → value-named h v ≡ true
+pub named-value : (h : Heap) (v : Value) → value-in-use h v ≡ true → value-named h v ≡ true
 unfolding call-rules sound-rules
 named-value h (slot s) e = e
 named-value h (scalar s) e = refl
@@ -214,23 +212,3 @@ element-store-left l i k kind a =
 
 pub element-store-keeps-sound : (l : Lent) (i k kind a : ℕ) → sound l ≡ true → sound (element-store l i k kind a .lent) ≡ true
 element-store-keeps-sound l i k kind a s = store-sound l (element-store l i k kind a) s (element-store-left l i k kind a)
-
--- ---- a refused collection
-
--- where the answer is a refusal, the lists are as they were
-abbrev Stays : Lent → Left (Unit {0}) → Type 0
-Stays l x = (r : Refusal) → x .answer ≡ refused r → x .lent ≡ l
-
-accepted-refused : {a : Unit {0}} {r : Refusal} → accepted a ≡ refused r → ⊥
-accepted-refused e = let z : _≡_ {A = ℕ} 0 1 = cc in omega arith
-
-pub collect-refused : (l : Lent) (scratch roots : List ℕ) (r : Refusal) → collect-call l scratch roots .answer ≡ refused r → collect-call l scratch roots .lent ≡ l
-unfolding collect-call checked
-collect-refused l scratch roots =
-    unless-keeps (Stays l)
-    ((not (sound l) ⇒ unsound) ∷ (ltb (length scratch) (scratch-words (capacity (heap-of l))) ⇒ short-scratch) ∷ [])
-    _ _
-    (λ t.
-    unless-keeps (Stays l) ((not (every (in-use (heap-of l)) roots) ⇒ no-such-slot) ∷ []) _ _
-    (λ u r e. absurd (accepted-refused e)) (λ q r e. refl))
-    (λ q r e. refl)

@@ -16,6 +16,7 @@ use lib.Seq.{drop-cons, getD-set-same, getD-set-other, set-out, set-append-left}
 use Rattle.laws.proofs.Below.{agree, both-left, both-right}
 use Rattle.laws.proofs.Sums.{sum-below, sum-below-front, sum-below-same, sum-below-ones, sum-set, length-by-count}
 use Rattle.laws.specs.Basics.{both, every, count, zeros, basics}
+use Rattle.laws.proofs.Stores.{getD-before-zeros}
 use Rattle.rules.specs.Map.{state-in, with-state, state-of, set-state, low-bits, set-low-bits, map-rules}
 
 pub by-place : (P : ℕ → Type 0) → P 0 → P 1 → P 2 → P 3 → (p : ℕ) → p < 4 → P p
@@ -276,17 +277,9 @@ unfolding set-low-bits basics
 set-low-bits-most [] = omega arith
 set-low-bits-most (b ∷ m) = omega (arith, low-bits-small b, set-low-bits-most m)
 
-zero-behind : (m : List ℕ) (n k : ℕ) → getD (m ++ zeros n) k 0 ≡ getD m k 0
-unfolding basics
-zero-behind [] zero k = refl
-zero-behind [] (suc n) zero = refl
-zero-behind [] (suc n) (suc k) = zero-behind [] n k
-zero-behind (b ∷ m) n zero = refl
-zero-behind (b ∷ m) n (suc k) = zero-behind m n k
-
 pub state-behind : (m : List ℕ) (n s : ℕ) → state-of (m ++ zeros n) s ≡ state-of m s
 unfolding state-of
-state-behind m n s = ap (λ (b : ℕ). state-in b (s % 4)) (zero-behind m n (s / 4))
+state-behind m n s = ap (λ (b : ℕ). state-in b (s % 4)) (getD-before-zeros m n (s / 4))
 
 pub set-state-behind : (m z : List ℕ) (s v : ℕ) → s / 4 < length m → set-state (m ++ z) s v ≡ set-state m s v ++ z
 unfolding set-state

@@ -9,14 +9,14 @@ use native.Mathlib.Numerals.{add-one}
 use native.Mathlib.Omega.{arith}
 use borrow.Author.Tests.{eq-eqb, ne-eqb, eqb-true, eqb-false}
 use lib.Dec.{eqb}
-use lib.ListN.{length, getD, take, drop, length-drop, drop-of-length-le}
-use lib.Seq.{drop-cons, drop-length}
-use Rattle.laws.specs.Basics.{both, ascii, little, same, basics}
+use lib.ListN.{length, getD, take, drop, drop-of-length-le}
+use lib.Seq.{drop-cons}
+use Rattle.laws.specs.Basics.{both, little, same, basics}
 use Rattle.laws.proofs.Writing.{to-end}
+use Rattle.laws.proofs.Options.{none-some, some-value}
 use Rattle.rules.specs.Text.{unsigned32}
-use Rattle.rules.specs.Sheet.{Line, Form, value-of, then-read, hexed, scoped-from, scoped, forms, read-form, node-line, header-line, lines-from, sheet-rules}
+use Rattle.rules.specs.Sheet.{Line, Form, value-of, then-read, hexed, scoped-from, scoped, forms, read-form, node-line, header-line, sheet-rules}
 use Rattle.text_numbers.specs.declared.Number.{Number}
-use Rattle.text_numbers.specs.declared.Number.the-variants.{Bad}
 use Rattle.text_numbers.specs.Answers.{shown}
 use Rattle.sheet_lines.specs.declared.Found.{Found}
 use Rattle.sheet_lines.specs.declared.Found.the-variants.{None, At}
@@ -25,12 +25,6 @@ use Rattle.sheet_lines.specs.declared.Form.the-variants as form
 use Rattle.sheet_lines.specs.Lines.{found, first-from, value-from, place-of, Keyed, no-form, form-at, key-at, form-value, form-number, form-place, FormRead, scoped-at, lines-words}
 
 -- ---- the first place
-
-pub some-is : {a b : ℕ} → some a ≡ some b → a ≡ b
-some-is e = cc
-
-pub none-some : {a : ℕ} → none ≡ some a → ⊥
-none-some e = let z : _≡_ {A = ℕ} 0 1 = cc in omega arith
 
 module _ (c : ℕ) (t : List ℕ) (from : ℕ) where
   -- what was to look at is what is left from a place on
@@ -71,7 +65,7 @@ placed c i (x ∷ cs) p e = by (eqb x c) refl e (λ q. placed c (suc i) cs p q)
   where
     by : (b : Bool) → eqb x c ≡ b → _≡_ {A = Option ℕ} (elim b [ true ↦ some i | false ↦ first-from c (suc i) cs ]) (some p) → (first-from c (suc i) cs ≡ some p → Placed c (suc i) cs p) → Placed c i (x ∷ cs) p
     by true q e again =
-        let s : i ≡ p = some-is e in
+        let s : i ≡ p = some-value e in
         let z : p - i ≡ 0 = omega arith in
         record {
           from = omega arith;
@@ -264,7 +258,7 @@ colon scope (c ∷ cs) i p e = by (eqb c 58) refl e (λ q. colon (scope ++ (c �
   where
     by : (b : Bool) → eqb c 58 ≡ b → _≡_ {A = Option ℕ} (elim b [ true ↦ some i | false ↦ first-from 58 (suc i) cs ]) (some p) → (first-from 58 (suc i) cs ≡ some p → Colon (scope ++ (c ∷ [])) cs (suc i) p) → Colon scope (c ∷ cs) i p
     by true q e again =
-        let s : i ≡ p = some-is e in
+        let s : i ≡ p = some-value e in
         let z : p - i ≡ 0 = omega arith in
         record {
           from = omega arith;

@@ -1,16 +1,17 @@
 -- What a caller may use of a line's end: the rules' lines of a text, the first of them taken off. Assumes nothing.
-use mathlib.Core.Path.{_≡_, refl, sym, ap, _∙_}
+use mathlib.Core.Path.{_≡_, sym, ap, _∙_}
 use mathlib.Core.Bool.{Bool, true, false}
 use mathlib.Core.List.{List, [], _∷_, _++_, append-nil, append-assoc}
 use mathlib.Core.Option.{Option, none, some}
-use Prim.Native.Nat.{ℕ, zero, suc, _+_, _-_, _≤_, _<_}
+use Prim.Native.Nat.{ℕ, suc, _+_, _-_, _≤_}
 use native.Mathlib.Omega.{arith}
 use lib.Dec.{eqb}
-use lib.ListN.{length, take, drop}
+use lib.ListN.{take, drop}
 use lib.Seq.{drop-drop}
+use Rattle.laws.proofs.Options.{none-some, some-value}
 use Rattle.rules.specs.Sheet.{lines-from, lines, sheet-rules}
 use Rattle.sheet_lines.specs.Lines.{first-from, lines-words}
-use Rattle.sheet_lines.proofs.KeyLaws.{Placed, placed, some-is, none-some}
+use Rattle.sheet_lines.proofs.KeyLaws.{placed}
 
 -- a line before the others
 unfoldable pub and-line : List ℕ → Option (List (List ℕ)) → Option (List (List ℕ))
@@ -27,7 +28,7 @@ found-from line (c ∷ cs) i p e h = by (eqb c 10) e (λ q k. found-from (line +
   where
     by : (b : Bool) → _≡_ {A = Option ℕ} (elim b [ true ↦ some i | false ↦ first-from 10 (suc i) cs ]) (some p) → (first-from 10 (suc i) cs ≡ some p → suc i ≤ p → lines-from (line ++ (c ∷ [])) cs ≡ and-line ((line ++ (c ∷ [])) ++ take (p - suc i) cs) (lines-from [] (drop (p - suc i + 1) cs))) → _≡_ {A = Option (List (List ℕ))} (elim b [ true ↦ and-line line (lines-from [] cs) | false ↦ lines-from (line ++ (c ∷ [])) cs ]) (and-line (line ++ take (p - i) (c ∷ cs)) (lines-from [] (drop (p - i + 1) (c ∷ cs))))
     by true e again =
-        let z : 0 ≡ p - i = omega (arith, some-is e) in
+        let z : 0 ≡ p - i = omega (arith, some-value e) in
         ap (λ (l : List ℕ). and-line l (lines-from [] cs)) (sym (append-nil line))
         ∙ ap (λ (k : ℕ). and-line (line ++ take k (c ∷ cs)) (lines-from [] (drop (k + 1) (c ∷ cs)))) z
     by false e again =

@@ -1,19 +1,19 @@
 -- A node's bytes as they are written. Assumes nothing.
 use mathlib.Core.Path.{_≡_, refl, sym, ap, _∙_, subst}
-use mathlib.Core.Bool.{Bool, true, false}
+use mathlib.Core.Bool.{true, false}
 use mathlib.Core.List.{List, [], _∷_, _++_}
 use mathlib.Core.Option.{Option, none, some}
-use Prim.Native.Nat.{ℕ, zero, suc, _+_, _-_, _/_, _%_, _≤_, _<_}
+use Prim.Native.Nat.{ℕ, suc, _+_, _-_, _/_, _%_, _≤_, _<_}
 use native.Mathlib.Numerals.{add-one}
 use native.Mathlib.Omega.{arith}
-use borrow.Author.Tests.{eq-eqb, ne-eqb}
+use borrow.Author.Tests.{ne-eqb}
 use lib.ListN.{length, set, take, drop, length-append}
 use lib.Seq.{sets}
-use Rattle.laws.specs.Basics.{choose, little, basics}
+use Rattle.laws.specs.Basics.{little, basics}
 use Rattle.laws.proofs.Bytes.{length-little}
 use Rattle.laws.proofs.Writing.{sets-append, to-end}
 use Rattle.rules.specs.Nodes.{write-text, nodes-rules}
-use Rattle.rules.specs.Text.{unsigned32, signed64, unhex}
+use Rattle.rules.specs.Text.{unsigned32, signed64}
 use Rattle.rules.specs.Sheet.{Line, then-read, bare, numbered, hexed, signed-number, sheet-rules}
 use Rattle.text_numbers.specs.declared.Number.{Number}
 use Rattle.text_numbers.specs.declared.Number.the-variants as number
@@ -21,7 +21,7 @@ use Rattle.text_numbers.specs.Answers.{shown, is-hex, unhexed, written, answers
 use Rattle.text_numbers.proofs.HexLaws.{unhexed-is, unhexed-not, length-unhexed}
 use Rattle.sheet_lines.specs.declared.NodeLine.{NodeLine}
 use Rattle.sheet_lines.specs.declared.NodeLine.the-variants.{Bad, Good}
-use Rattle.sheet_lines.specs.Lines.{form-at, follow-of, line-answer, line-bytes, Lined, TextWritten, scoped-at, lines-words}
+use Rattle.sheet_lines.specs.Lines.{form-at, follow-of, Lined, TextWritten, scoped-at, lines-words}
 
 -- ---- bytes
 
@@ -76,11 +76,11 @@ text-size t h w =
 
 -- what is read further
 module _ {A B : Type 0} (f : A → Option B) {o : Option A} where
-  then-none : o ≡ none → then-read o f ≡ none
+  pub then-none : o ≡ none → then-read o f ≡ none
   unfolding sheet-rules
   then-none e = ap (λ (o : Option A). then-read o f) e
 
-  then-some : {a : A} → o ≡ some a → then-read o f ≡ f a
+  pub then-some : {a : A} → o ≡ some a → then-read o f ≡ f a
   unfolding sheet-rules
   then-some e = ap (λ (o : Option A). then-read o f) e
 

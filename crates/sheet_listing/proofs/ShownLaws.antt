@@ -12,15 +12,17 @@ use Rattle.laws.specs.Basics.{ascii, choose, rising, basics}
 use Rattle.laws.proofs.Tests.{both-left}
 use Rattle.laws.proofs.Lists.{told-again}
 use Rattle.laws.proofs.Pointwise.{getD-part, length-part}
+use Rattle.laws.proofs.Options.{some-value}
 use Rattle.rules.specs.Cells.{undefined, scalar, Block, Cell, plain, pair, symbol, string, vector}
 use Rattle.rules.specs.Heap.{Heap, capacity, cell-at, in-use, part-of, text-of, elements-of}
 use Rattle.rules.specs.Layout.{Lent, map-bytes, rooms-of, heap-of, layout-rules}
-use Rattle.rules.specs.Sound.{text-block, vector-block, lies-in, cell-allowed, Sound, sound, sound-rules}
+use Rattle.rules.specs.Sound.{text-block, vector-block, cell-allowed, Sound, sound, sound-rules}
 use Rattle.rules.specs.Text.{decimal, hex}
 use Rattle.rules.specs.Listing.{print-value, commas, print-cell, print-slot, listing-rules}
 use Rattle.rules.proofs.SoundLaws.{clauses, bounds, lists-again, sound-fits}
 use Rattle.rules.proofs.Good.{Cell-good}
 use Rattle.rules.proofs.GoodSound.{sound-good}
+use Rattle.rules.proofs.Keeping.{lies-below}
 use Rattle.leaf_cells.specs.Cells.{cell-of, lookup-of, looked-up}
 use Rattle.leaf_cells.specs.declared.Lookup.{Lookup}
 use Rattle.leaf_cells.specs.declared.Lookup.the-variants as look
@@ -30,9 +32,6 @@ use Rattle.leaf_cells.proofs.CallLaws.{load-element-on}
 use Rattle.text_numbers.specs.Answers.{Printed}
 use Rattle.sheet_listing.specs.Printing.{most-line, most-cell, Within, listed, element-text, cell-text, Shown-in, slot-text}
 use Rattle.sheet_listing.proofs.PrintLaws.{byte-printed, behind, bounded, within-as}
-
-some-is : {A : Type 0} {a b : A} → some a ≡ some b → a ≡ b
-some-is e = cc
 
 none-some : {A B : Type 0} {a : A} → none ≡ some a → B
 none-some e = let z : _≡_ {A = ℕ} 0 1 = cc in absurd (omega arith)
@@ -62,7 +61,7 @@ module _ (l : Lent) (is : sound l ≡ true) where
     found-cell c e = by (in-use h s) (ap lookup-of (sym e) ∙ told ∙ looked s)
       where
         by : (b : Bool) → some (cell-of c) ≡ choose b (some (cell-at h s)) none → (b ≡ true) × (cell-of c ≡ cell-at h s)
-        by true q = (refl, some-is q)
+        by true q = (refl, some-value q)
         by false q = none-some (sym q)
 
     pub not-found : f ≡ look.NotInUse → in-use h s ≡ false
@@ -73,10 +72,6 @@ module _ (l : Lent) (is : sound l ≡ true) where
         by false q = refl
 
   -- ---- in the arenas
-
-  inside : (used : ℕ) (b : Block) → lies-in used b ≡ true → b .place + b .size ≤ used
-  unfolding sound-rules
-  inside used b e = leb-true _ _ (both-left (leb (b .place + b .size) used) _ e)
 
   text-short : (c : Cell) → cell-allowed h c ≡ true → text-block c .size ≤ 4096
   unfolding sound-rules
@@ -100,8 +95,8 @@ module _ (l : Lent) (is : sound l ≡ true) where
 
   shown-in : (c : Cell) → Cell-good h c → Shown-in (length (l .bytes)) (length (l .elems)) c
   shown-in c g =
-      let t = inside (length (h .bytes)) (text-block c) (g .text-in) in
-      let v = inside (length (h .elements)) (vector-block c) (g .vector-in) in
+      let t = lies-below (length (h .bytes)) (text-block c) (g .text-in) in
+      let v = lies-below (length (h .elements)) (vector-block c) (g .vector-in) in
       record {
         text = omega (arith, t, bytes-used);
         text-short = text-short c (g .allowed);
@@ -134,7 +129,7 @@ module _ (l : Lent) (is : sound l ≡ true) where
 
   cell-there : (c : Cell) → Cell-good h c → cell-text (l .bytes) (l .elems) c ≡ print-cell h c
   unfolding cell-text listing-rules
-  cell-there c g = by c (inside _ (text-block c) (g .text-in)) (inside _ (vector-block c) (g .vector-in))
+  cell-there c g = by c (lies-below _ (text-block c) (g .text-in)) (lies-below _ (vector-block c) (g .vector-in))
     where
       by : (c : Cell) → text-block c .place + text-block c .size ≤ length (h .bytes) → vector-block c .place + vector-block c .size ≤ length (h .elements) → cell-text (l .bytes) (l .elems) c ≡ print-cell h c
       by (plain s) t v = refl

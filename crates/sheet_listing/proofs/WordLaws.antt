@@ -1,15 +1,14 @@
 -- The lines that tell the words' counts and the free list. Assumes nothing.
 use mathlib.Core.Path.{_≡_, sym, ap, _∙_}
-use mathlib.Core.List.{List, [], _∷_, _++_, map, reverse, reverse-cons}
-use Prim.Native.Nat.{ℕ, zero, suc, _+_, _-_, _*_, _≤_, _<_}
+use mathlib.Core.List.{List, [], _∷_, _++_, map, reverse}
+use Prim.Native.Nat.{ℕ, _+_, _-_, _*_, _≤_, _<_}
 use native.Mathlib.Omega.{arith}
 use borrow.Author.Tests.{ltb-true}
 use lib.Dec.{ltb}
-use lib.ListN.{length, getD, set, length-map, length-reverse, List·getD-append, List·getD-map}
-use lib.Seq.{getD-append-seam}
+use lib.ListN.{length, getD, set, length-map, List·getD-map}
 use Rattle.laws.specs.Basics.{ascii, every, rising, basics}
 use Rattle.laws.proofs.Tests.{both-left}
-use Rattle.laws.proofs.Lists.{told-again}
+use Rattle.laws.proofs.Lists.{told-again, last-first}
 use Rattle.laws.proofs.Pointwise.{every-all}
 use Rattle.rules.specs.Heap.{capacity, free-count}
 use Rattle.rules.specs.Layout.{heap-of, layout-rules}
@@ -53,21 +52,6 @@ module _ (ws : List ℕ) (s : Sound-words ws) where
   header-there = omega (arith, bounds-of .words)
 
 -- ---- the free list, from its end
-
-last-first : (l : List ℕ) (i : ℕ) → i < length l → getD l i 0 ≡ getD (reverse l) (length l - 1 - i) 0
-last-first [] i h = absurd (omega arith)
-last-first (x ∷ xs) zero h =
-    let e : length (x ∷ xs) - 1 - 0 ≡ length (reverse xs) = omega (arith, length-reverse xs) in
-    sym
-    (ap (λ (n : ℕ). getD (reverse (x ∷ xs)) n 0) e ∙ ap (λ (l : List ℕ). getD l (length (reverse xs)) 0) (reverse-cons x xs)
-    ∙ getD-append-seam (reverse xs) x [] 0)
-last-first (x ∷ xs) (suc i) h =
-    let e : length (x ∷ xs) - 1 - suc i ≡ length xs - 1 - i = omega arith in
-    last-first xs i (omega arith)
-    ∙ sym
-    (ap (λ (n : ℕ). getD (reverse (x ∷ xs)) n 0) e
-    ∙ ap (λ (l : List ℕ). getD l (length xs - 1 - i) 0) (reverse-cons x xs)
-    ∙ List·getD-append (reverse xs) (x ∷ []) 0 (length xs - 1 - i) (omega (arith, length-reverse xs)))
 
 module _ (ws m b e : List ℕ) where
   free-of : List ℕ

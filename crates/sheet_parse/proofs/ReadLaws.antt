@@ -1,15 +1,13 @@
 -- Clearing, the header's lines, and a line of the data as it is read. Assumes nothing.
 use mathlib.Core.Path.{_≡_, refl, sym, ap, _∙_, subst}
 use mathlib.Core.Bool.{Bool, true, false}
-use mathlib.Core.List.{List, [], _∷_, _++_}
+use mathlib.Core.List.{List}
 use mathlib.Core.Option.{Option, none, some}
 use Prim.Native.Nat.{ℕ, _+_, _-_, _≤_, _<_}
-use native.Mathlib.Numerals.{add-one}
 use native.Mathlib.Omega.{arith}
 use lib.Dec.{eqb}
-use lib.ListN.{length, set, take, drop, length-drop}
-use lib.Seq.{take-suc-set, take-all}
-use Rattle.laws.specs.Basics.{ascii, choose, same, basics}
+use lib.ListN.{length, take, drop, length-drop}
+use Rattle.laws.specs.Basics.{ascii, choose, same}
 use Rattle.rules.specs.Sheet.{Line, node-line, header-line}
 use Rattle.text_numbers.specs.declared.Number.{Number}
 use Rattle.text_numbers.specs.declared.Number.the-variants as number
@@ -20,13 +18,13 @@ use Rattle.sheet_lines.specs.declared.NodeLine.{NodeLine}
 use Rattle.sheet_lines.specs.declared.NodeLine.the-variants as line-as
 use Rattle.sheet_lines.specs.Lines.{found, first-from, Lined, line-answer, line-bytes, lines-words}
 use Rattle.sheet_lines.proofs.KeyLaws.{placed}
+use Rattle.sheet_lines.proofs.NodeLaws.{then-none, then-some}
 use Rattle.sheet_parse.specs.declared.Header.{Header}
 use Rattle.sheet_parse.specs.declared.Header.the-variants as header
 use Rattle.sheet_parse.specs.declared.Front.the-variants as front-as
 use Rattle.sheet_parse.specs.declared.Reading.{Reading}
 use Rattle.sheet_parse.specs.declared.Reading.the-variants as reading
 use Rattle.sheet_parse.specs.Steps.{line-number, header-at, header-told, header-next, HeaderRead, slots-after, FrontRead, Told, bad, last, node, line-told, told-at, LineRead, steps-words}
-use Rattle.sheet_parse.proofs.SizeLaws.{then-none, then-some}
 
 -- ---- the end of a line
 

@@ -13,6 +13,7 @@ use Rattle.rules.specs.Sheet.{Line, lines, then-read, node-lines, header-line, 
 use Rattle.text_numbers.specs.Answers.{written}
 use Rattle.sheet_lines.specs.Lines.{first-from}
 use Rattle.sheet_lines.proofs.LineLaws.{and-line, only-empty, line-found, line-missing}
+use Rattle.sheet_lines.proofs.NodeLaws.{then-none, then-some}
 use Rattle.sheet_parse.specs.declared.Sheet as code
 use Rattle.sheet_parse.specs.declared.Sheet.the-variants as sheet-as
 use Rattle.sheet_parse.specs.declared.Front as code-front
@@ -21,7 +22,6 @@ use Rattle.sheet_parse.specs.declared.Nodes.{Nodes}
 use Rattle.sheet_parse.specs.declared.Nodes.the-variants as nodes
 use Rattle.sheet_parse.specs.Parsed.{totals, data-in, answer-of, bytes-of, ends-of, Parsed, parsed-words}
 use Rattle.sheet_parse.specs.Steps.{Numbered, line-number, header-at, Front, slots-after, front-of, front-told, front-next, FrontRead, begun-at, nodes-from, ends-from, bytes-from, Outcome, come-to, outcome, count-of, used-of, NodesRead, steps-words}
-use Rattle.sheet_parse.proofs.SizeLaws.{then-none, then-some}
 
 -- ---- the sheet
 

@@ -9,6 +9,7 @@ use lib.Dec.{eqb}
 use lib.ListN.{length, length-append}
 use Rattle.laws.specs.Basics.{little, basics}
 use Rattle.laws.proofs.Bytes.{length-little}
+use Rattle.laws.proofs.Options.{none-some, some-value}
 use Rattle.rules.specs.Nodes.{write-text, nodes-rules}
 use Rattle.rules.specs.Text.{unsigned32, signed64, unhex}
 use Rattle.rules.specs.Sheet.{Line, Form, value-of, then-read, bare, numbered, hexed, signed-number, scoped-from, forms, read-form, node-line, sheet-rules}
@@ -18,21 +19,6 @@ use Rattle.text_numbers.proofs.ReadLaws.{unsigned32-small}
 
 -- ---- what is read further
 
-pub no-some : {A : Type 0} {a : A} → none ≡ some a → ⊥
-no-some e = let z : _≡_ {A = ℕ} 0 1 = cc in omega arith
-
-pub the-some : {A : Type 0} {a b : A} → some a ≡ some b → a ≡ b
-the-some e = cc
-
-module _ {A B : Type 0} (f : A → Option B) {o : Option A} where
-  pub then-none : o ≡ none → then-read o f ≡ none
-  unfolding sheet-rules
-  then-none e = ap (λ (o : Option A). then-read o f) e
-
-  pub then-some : {a : A} → o ≡ some a → then-read o f ≡ f a
-  unfolding sheet-rules
-  then-some e = ap (λ (o : Option A). then-read o f) e
-
 -- what was read first, where something was read at last
 pub record Then {A B : Type 0} (o : Option A) (f : A → Option B) (b : B) : Type 0 where
   pub first : A
@@ -41,7 +27,7 @@ pub record Then {A B : Type 0} (o : Option A) (f : A → Option B) (b : B) : Typ
 
 pub then-both : {A B : Type 0} (o : Option A) (f : A → Option B) (b : B) → then-read o f ≡ some b → Then o f b
 unfolding sheet-rules
-then-both none f b e = absurd (no-some e)
+then-both none f b e = absurd (none-some e)
 then-both (some a) f b e = record { first = a; is = refl; then = e }
 
 -- ---- sizes
@@ -56,12 +42,12 @@ longer : {l : Line} (m n : ℕ) → m ≤ n → Fits m l → Fits n l
 longer m n h f = record { long = omega (arith, f .long); size = omega (arith, f .size); few = f .few }
 
 same-line : {l m : Line} (n : ℕ) → some m ≡ some l → Fits n m → Fits n l
-same-line n e f = subst (λ (x : Line). Fits n x) (the-some e) f
+same-line n e f = subst (λ (x : Line). Fits n x) (some-value e) f
 
 bare-fits : (kind follow k : ℕ) (v : List ℕ) (l : Line) → 4 ≤ k → follow < 4294967296 → bare kind follow v ≡ some l → Fits (k + length v) l
 unfolding sheet-rules
 bare-fits kind follow k [] l h f e = same-line _ e (record { long = omega arith; size = omega arith; few = f })
-bare-fits kind follow k (c ∷ cs) l h f e = absurd (no-some e)
+bare-fits kind follow k (c ∷ cs) l h f e = absurd (none-some e)
 
 numbered-fits : (kind k : ℕ) (follow : ℕ → ℕ) (v : List ℕ) (l : Line) → 4 ≤ k → ((n : ℕ) → n < 4294967296 → follow n < 4294967296) → numbered kind follow v ≡ some l → Fits (k + length v) l
 unfolding sheet-rules
@@ -107,7 +93,7 @@ hexed-fits k front v l h f e =
 
 scoped-fits : (scope v : List ℕ) (l : Line) → scoped-from scope v ≡ some l → Fits (6 + length v) l
 unfolding sheet-rules
-scoped-fits scope [] l e = absurd (no-some e)
+scoped-fits scope [] l e = absurd (none-some e)
 scoped-fits scope (c ∷ cs) l e = by (eqb c 58) e (λ q. scoped-fits (scope ++ (c ∷ [])) cs l q)
   where
     by : (b : Bool) → _≡_ {A = Option Line} (elim b [ true ↦ then-read (unsigned32 scope) (λ n. hexed (11 ∷ little 4 n) cs) | false ↦ scoped-from (scope ++ (c ∷ [])) cs ]) (some l) → (scoped-from (scope ++ (c ∷ [])) cs ≡ some l → Fits (6 + length cs) l) → Fits (6 + length (c ∷ cs)) l
@@ -127,17 +113,17 @@ data Sizes : List Form → Type 0 where
 
 value-length : (key t v : List ℕ) → value-of key t ≡ some v → length t ≡ length key + length v
 unfolding sheet-rules
-value-length [] t v e = omega (arith, ap length (the-some e))
-value-length (k ∷ ks) [] v e = absurd (no-some e)
+value-length [] t v e = omega (arith, ap length (some-value e))
+value-length (k ∷ ks) [] v e = absurd (none-some e)
 value-length (k ∷ ks) (c ∷ cs) v e = by (eqb k c) e (λ q. value-length ks cs v q)
   where
     by : (b : Bool) → _≡_ {A = Option (List ℕ)} (elim b [ true ↦ value-of ks cs | false ↦ none ]) (some v) → (value-of ks cs ≡ some v → length cs ≡ length ks + length v) → length (c ∷ cs) ≡ length (k ∷ ks) + length v
     by true e again = omega (arith, again e)
-    by false e again = absurd (no-some e)
+    by false e again = absurd (none-some e)
 
 form-fits : (fs : List Form) → Sizes fs → (t : List ℕ) (l : Line) → read-form fs t ≡ some l → Fits (length t) l
 unfolding sheet-rules
-form-fits [] s t l e = absurd (no-some e)
+form-fits [] s t l e = absurd (none-some e)
 form-fits (f ∷ fs) (and-form s ss) t l e = by (value-of (f .key) t) refl e (λ q. form-fits fs ss t l q)
   where
     by : (o : Option (List ℕ)) → value-of (f .key) t ≡ o → _≡_ {A = Option Line} (elim o [ none ↦ read-form fs t | some v ↦ f .read v ]) (some l) → (read-form fs t ≡ some l → Fits (length t) l) → Fits (length t) l

@@ -1,35 +1,34 @@
 -- One datum after the other is put. Assumes nothing.
 use mathlib.Core.Path.{_≡_, refl, sym, ap, _∙_, subst}
-use mathlib.Core.Bool.{Bool, true, false, not}
+use mathlib.Core.Bool.{true, not}
 use mathlib.Core.List.{List, [], _∷_, _++_}
-use Prim.Native.Nat.{ℕ, zero, suc, _+_, _-_, _*_, _≤_, _<_}
+use Prim.Native.Nat.{ℕ, zero, suc, _+_, _-_, _≤_, _<_}
 use native.Mathlib.Omega.{arith}
 use native.Mathlib.Numerals.{add-one}
 use lib.Dec.{ltb}
 use lib.ListN.{length, getD, take, drop, set, length-set}
 use lib.Seq.{drop-cons, take-suc-set}
-use Rattle.laws.specs.Basics.{every, zeros, basics}
-use Rattle.laws.proofs.Tests.{both-left, both-right, both-true}
+use Rattle.laws.specs.Basics.{zeros, basics}
+use Rattle.laws.proofs.Tests.{every-take, every-drop}
 use Rattle.laws.proofs.Lists.{length-zeros}
 use Rattle.laws.proofs.Bytes.{all-bytes}
 use Rattle.rules.specs.Numbers.{scratch-words}
-use Rattle.rules.specs.Refusals.{Refusal, bad-setup, unsound, short-scratch, malformed, over-limit, early-label, no-such-slot, wrong-cell, no-slots, no-room, short-output, Answer, accepted, refused, told, number-of, Test, _⇒_, unless, refusals}
+use Rattle.rules.specs.Refusals.{Refusal, bad-setup, unsound, short-scratch, malformed, over-limit, early-label, no-such-slot, wrong-cell, no-slots, no-room, short-output, Answer, accepted, refused, told, number-of, _⇒_, refusals}
 use Rattle.rules.specs.Nodes.{nodes-rules}
 use Rattle.rules.specs.Datum.{Datum, Parse, good, bad, parse, within-limits, early-reference}
 use Rattle.rules.specs.Heap.{capacity}
 use Rattle.rules.specs.Layout.{Lent, Rooms, rooms-of, heap-of, lent-of}
 use Rattle.rules.specs.Put.{put-datum, slot-in, slots-short, room-short}
 use Rattle.rules.specs.Sound.{sound}
-use Rattle.rules.specs.Calls.{Left, left, cleared, checked, put-tree, put-call, call-rules}
-use Rattle.rules.specs.Listing.{sheet-slots, listing, refusal-line, put-each}
-use Rattle.rules.proofs.GoodSound.{passed, unless-keeps}
-use Rattle.rules.proofs.PutSound.{Put-left, Put-accepted, accepts, refuses, put-left}
-use Rattle.rules.proofs.SoundLaws.{clauses, bounds, capacity-lent}
+use Rattle.rules.specs.Calls.{Left, left, cleared, checked, put-tree, put-call}
+use Rattle.rules.specs.Listing.{sheet-slots, refusal-line, put-each}
+use Rattle.rules.proofs.GoodSound.{unless-keeps}
+use Rattle.rules.proofs.PutSound.{Put-left, accepts, refuses, put-left}
 use Rattle.leaf_nodes.proofs.Laws.{all-small}
 use Rattle.doors.specs.declared.PutAnswer.{PutAnswer}
 use Rattle.doors.specs.declared.PutAnswer.the-variants as puts
 use Rattle.doors.specs.Answers.{put-answer}
-use Rattle.sheet_parse.specs.Parsed.{Within, place-before, part-of}
+use Rattle.sheet_parse.specs.Parsed.{place-before, part-of}
 use Rattle.sheet_run.specs.declared.Puts.the-variants as done
 use Rattle.sheet_run.specs.Running.{slot-answered, DataAt, Begun, each-put, EachPut}
 
@@ -112,18 +111,6 @@ put-clears l scratch datum s e =
     by (bad f n) = refl
 
 -- ---- a part of lent bytes is bytes
-
-every-take : (f : ℕ → Bool) (n : ℕ) (l : List ℕ) → every f l ≡ true → every f (take n l) ≡ true
-unfolding basics
-every-take f zero l h = refl
-every-take f (suc n) [] h = refl
-every-take f (suc n) (x ∷ l) h = both-true (both-left (f x) _ h) (every-take f n l (both-right (f x) _ h))
-
-every-drop : (f : ℕ → Bool) (n : ℕ) (l : List ℕ) → every f l ≡ true → every f (drop n l) ≡ true
-unfolding basics
-every-drop f zero l h = h
-every-drop f (suc n) [] h = refl
-every-drop f (suc n) (x ∷ l) h = every-drop f n l (both-right (f x) _ h)
 
 part-bytes : (nodes ends : List ℕ) (i : ℕ) → ((k : ℕ) → getD nodes k 0 < 256) → all-bytes (part-of nodes ends i) ≡ true
 unfolding part-of nodes-rules basics

@@ -7,11 +7,12 @@ use Prim.Native.Nat.{ℕ, zero, suc, _+_, _-_, _*_, _≤_, _<_}
 use native.Mathlib.Numerals.{add-one}
 use native.Mathlib.Omega.{arith}
 use borrow.Author.Tests.{le-leb, lt-leb, leb-true, eq-eqb, ne-eqb}
-use lib.Dec.{leb, eqb}
+use lib.Dec.{leb}
 use lib.ListN.{length, getD, take, drop, drop-of-length-le}
 use lib.Seq.{drop-cons}
 use Rattle.laws.specs.Basics.{choose}
 use Rattle.laws.proofs.Writing.{to-end}
+use Rattle.laws.proofs.Options.{none-some}
 use Rattle.rules.specs.Numbers.{bits32, bits64}
 use Rattle.rules.specs.Text.{digit-value, number-from, natural, at-most, unsigned32, negative, signed64, text-rules}
 use Rattle.text_numbers.specs.declared.Number.{Number}
@@ -27,9 +28,6 @@ within-most most n h = ap (λ (b : Bool). choose b (some n) none) (le-leb n most
 pub past-most : (most n : ℕ) → most < n → at-most most (some n) ≡ none
 unfolding text-rules
 past-most most n h = ap (λ (b : Bool). choose b (some n) none) (lt-leb n most h)
-
-none-some : {n : ℕ} → none ≡ some n → ⊥
-none-some e = let z : _≡_ {A = ℕ} 0 1 = cc in omega arith
 
 pub most-small : (most n : ℕ) (o : Option ℕ) → at-most most o ≡ some n → n ≤ most
 unfolding text-rules

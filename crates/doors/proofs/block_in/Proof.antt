@@ -1,12 +1,10 @@
 -- `doors::block_in`: by the cell's kind. Assumes nothing.
-use mathlib.Core.Path.{sym, ap}
-use native.Mathlib.Omega.{arith}
-use denote.Enum.Declared.{tagOf}
+use mathlib.Core.Path.{sym, ap, refl}
 use Rattle.rules.specs.Calls.{text-in}
 use Rattle.leaf_cells.specs.Cells.{cell-of}
 use Rattle.leaf_cells.specs.declared.VCell.{VCell}
-use Rattle.leaf_cells.proofs.VCell.{the-type}
-use Rattle.doors.proofs.DoorLaws.{not-text, other-variant}
+use Rattle.leaf_cells.proofs.Variants.{but-texts, other-cell}
+use Rattle.doors.proofs.DoorLaws.{not-text}
 use borrow.Author.Needs.{needs}
 use Rattle.doors.proofs.block_in.Statement.{statement}
 use Rattle.doors.proofs.block_in.Tie as tie
@@ -26,7 +24,7 @@ unfolding text-in
 returns-2 c = ap (λ (x : VCell). text-in (cell-of x)) (sym (c .before .cell2 .given .1))
 
 returns-3 : tie.Need-returns-3
-returns-3 c = not-text (c .before .args .cell) (λ p n e. other-variant _ (c .match .keys3) 8 (omega arith) (omega arith) (ap (λ (x : VCell). tagOf the-type x) e)) (λ p n e. other-variant _ (c .match .keys3) 9 (omega arith) (omega arith) (ap (λ (x : VCell). tagOf the-type x) e))
+returns-3 c = not-text (c .before .args .cell) (λ p n e. other-cell but-texts _ (c .match .keys3) e refl) (λ p n e. other-cell but-texts _ (c .match .keys3) e refl)
 
 pub block-in-spec : {M : Type 1} → statement M
 block-in-spec = tie.close (tie.spec enum-known-cell enum-known-cell-2 returns returns-2 returns-3)

@@ -1,13 +1,15 @@
 -- `doors::text`: the block's part of the bytes, or an empty one. Assumes nothing.
-use mathlib.Core.Path.{sym, ap, _∙_}
+use mathlib.Core.Path.{sym, ap, _∙_, refl}
+use mathlib.Core.List.{[], _∷_}
 use denote.Enum.Declared.{tagOf}
 use Rattle.rules.specs.Cells.{block}
 use Rattle.heap_sound_rows.specs.Rows.{lists}
 use Rattle.doors.specs.Answers.{block-answer}
 use Rattle.doors.specs.declared.TextBlock.{TextBlock}
 use Rattle.doors.proofs.TextBlock.{the-type}
-use Rattle.doors.proofs.DoorLaws.{refusal-variant, part-refused, part-fits, part-held}
+use Rattle.doors.proofs.DoorLaws.{part-refused, part-fits, part-held}
 use borrow.Author.Needs.{needs}
+use Rattle.laws.proofs.Variants.{other-variant}
 use Rattle.doors.proofs.text.Statement.{statement}
 use Rattle.doors.proofs.text.Tie as tie
 
@@ -21,7 +23,7 @@ slice-aggregate-result : tie.Need-slice-aggregate-result
 slice-aggregate-result c = search needs
 
 returns : tie.Need-returns
-returns c = part-refused (lists (c .before .before .before .before .before .before .before .args .words .now) (c .before .before .before .before .before .before .before .args .map .now) (c .before .before .before .before .before .before .before .args .bytes .now) (c .before .before .before .before .before .before .before .args .elems .now)) (c .before .before .before .before .before .before .before .args .slot) (c .before .before .text-block .result) (c .before .before .text-block .ensures) (λ p n e. refusal-variant _ (c .before .match .keys2) (ap (λ (x : TextBlock). tagOf the-type x) e))
+returns c = part-refused (lists (c .before .before .before .before .before .before .before .args .words .now) (c .before .before .before .before .before .before .before .args .map .now) (c .before .before .before .before .before .before .before .args .bytes .now) (c .before .before .before .before .before .before .before .args .elems .now)) (c .before .before .before .before .before .before .before .args .slot) (c .before .before .text-block .result) (c .before .before .text-block .ensures) (λ p n e. other-variant (λ (x : TextBlock). tagOf the-type x) 1 (2 ∷ 3 ∷ []) _ (c .before .match .keys2) e refl)
 
 text-requires : tie.Need-text-requires
 text-requires c κs = part-fits (lists (c .before .before .before .before .before .before .before .before .args .words .now) (c .before .before .before .before .before .before .before .before .args .map .now) (c .before .before .before .before .before .before .before .before .args .bytes .now) (c .before .before .before .before .before .before .before .before .args .elems .now)) (c .before .before .before .before .before .before .before .before .args .slot) (block _ _) (ap block-answer (sym (c .before .block .given .1)) ∙ c .before .before .before .text-block .ensures)

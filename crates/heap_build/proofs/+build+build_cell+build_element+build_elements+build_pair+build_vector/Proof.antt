@@ -4,7 +4,7 @@ use Rattle.heap_build.proofs.Cycle.{slot-mark, task-at, ref-done, def-o
 use Rattle.heap_build.proofs.KindLaws.{plain-cell}
 use mathlib.Core.Logic.{⊎-elim}
 use Rattle.heap_build.specs.Tasks.{Job, Task, ElementsTask}
-use Rattle.heap_walk.proofs.KindLaws.{other-value}
+use Rattle.leaf_cells.proofs.Variants.{other-value}
 use lib.ListN.{length, length-set}
 use mathlib.Core.Path.{_≡_, refl, _∙_}
 use native.Mathlib.Omega.{arith}

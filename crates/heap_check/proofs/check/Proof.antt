@@ -4,12 +4,14 @@ use Rattle.leaf_nodes.specs.declared.Node as leaf
 use Rattle.leaf_nodes.specs.declared.Node.the-variants.{Faulty}
 use denote.Enum.Declared.{tagOf}
 use Rattle.leaf_nodes.proofs.Node.{the-type}
-use Rattle.heap_check.proofs.PassLaws.{Going, going-begins, turn-stops, turn-inside, turn-some, turn-goes, turn-over, turn-judged, later-tag}
+use Rattle.heap_check.proofs.PassLaws.{Going, going-begins, turn-stops, turn-inside, turn-some, turn-goes, turn-over, turn-judged}
 use lib.ListN.{length}
-use mathlib.Core.Path.{_≡_, ap}
+use mathlib.Core.Path.{_≡_, refl}
+use mathlib.Core.List.{[], _∷_}
 use native.Mathlib.Omega.{arith}
 use Prim.Native.Nat.{_+_, _-_, _≤_}
 use borrow.Author.Needs.{needs}
+use Rattle.laws.proofs.Variants.{other-variant}
 use Rattle.heap_check.proofs.check.Statement.{statement}
 use Rattle.heap_check.proofs.check.Tie as tie
 
@@ -21,7 +23,7 @@ abbrev μ-loop : tie.MeasureT-loop
 
 -- the node is none of the faulty ones
 not-faulty : (c : tie.At-match-keys2 Inv-loop μ-loop) → (f : Fault) → c .before .read-node .result .node ≡ Faulty f → ⊥
-not-faulty c f e = later-tag _ (c .match .keys2) (ap (λ (x : leaf.Node). tagOf the-type x) e)
+not-faulty c f e = other-variant (λ (x : leaf.Node). tagOf the-type x) 1 (2 ∷ 3 ∷ 4 ∷ 5 ∷ 6 ∷ 7 ∷ 8 ∷ []) _ (c .match .keys2) e refl
 
 -- it lies inside the datum, and takes a byte at least
 moves : (c : tie.At-match-keys2 Inv-loop μ-loop) → (c .before .before .before .before .loop .at + c .before .read-node .result .size ≤ length (c .before .before .before .before .before .before .before .args .datum .now)) × (1 ≤ c .before .read-node .result .size)

@@ -1,12 +1,11 @@
 -- `heap_given::cell_in_use`: a pair names two slots, and no other cell any. Assumes nothing.
-use mathlib.Core.Path.{sym, ap, _∙_}
+use mathlib.Core.Path.{sym, ap, _∙_, refl}
 use borrow.Author.Tests.{not-true, not-false}
-use denote.Enum.Declared.{tagOf}
 use Rattle.leaf_cells.specs.Cells.{cell-of}
 use Rattle.leaf_cells.specs.declared.VCell.{VCell}
-use Rattle.leaf_cells.proofs.VCell.{the-type}
+use Rattle.leaf_cells.proofs.Variants.{but-pair, other-cell}
 use Rattle.heap_given.specs.Given.{cell-named}
-use Rattle.heap_given.proofs.GivenLaws.{first-unused, first-used, other-named, other-variant}
+use Rattle.heap_given.proofs.GivenLaws.{first-unused, first-used, other-named}
 use borrow.Author.Needs.{needs}
 use Rattle.heap_given.proofs.cell_in_use.Statement.{statement}
 use Rattle.heap_given.proofs.cell_in_use.Tie as tie
@@ -27,7 +26,7 @@ returns-2 : tie.Need-returns-2
 returns-2 c = first-used _ _ _ _ _ (sym (c .before .before .in-use .ensures) ∙ not-false _ (c .before .if1 .left)) (c .in-use2 .ensures) ∙ ap (λ (x : VCell). cell-named (c .before .before .before .before .before .before .before .args .capacity) (c .before .before .before .before .before .before .before .args .map .now) (cell-of x)) (sym (c .before .before .before .before .c .given .1))
 
 returns-3 : tie.Need-returns-3
-returns-3 c = other-named _ _ (c .before .before .args .c) (λ a d e. other-variant _ (c .match .keys2) (ap (λ (x : VCell). tagOf the-type x) e))
+returns-3 c = other-named _ _ (c .before .before .args .c) (λ a d e. other-cell but-pair _ (c .match .keys2) e refl)
 
 pub cell-in-use-spec : {M : Type 1} → statement M
 cell-in-use-spec =

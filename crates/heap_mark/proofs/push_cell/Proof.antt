@@ -1,15 +1,12 @@
 -- `heap_mark::push_cell`: by the kind of the cell. Assumes nothing.
-use Rattle.leaf_cells.proofs.VCell.{the-type}
-use Rattle.leaf_cells.specs.declared.VCell.{VCell}
-use denote.Enum.Declared.{tagOf}
+use Rattle.leaf_cells.proofs.Variants.{but-parts, other-cell}
 use native.Mathlib.Omega.{arith}
 use Prim.Native.Nat.{ℕ}
-use mathlib.Core.Logic.{inl, inr}
 use mathlib.Core.List.{List, [], _∷_}
-use mathlib.Core.Path.{sym, ap, subst}
+use mathlib.Core.Path.{sym, subst, refl}
 use Rattle.heap_mark.proofs.Pushes.{can-first, can-rest, pushed-on, pushed-none}
 use Rattle.heap_mark.specs.Marks.{CanPush, Pushed}
-use Rattle.heap_mark.proofs.Leads.{leads-pair, leads-vector, vector-fits, leads-nowhere, other-variant}
+use Rattle.heap_mark.proofs.Leads.{leads-pair, leads-vector, vector-fits, leads-nowhere}
 use borrow.Author.Needs.{needs}
 use Rattle.heap_mark.proofs.push_cell.Statement.{statement}
 use Rattle.heap_mark.proofs.push_cell.Tie as tie
@@ -51,7 +48,7 @@ returns-2 : tie.Need-returns-2
 returns-2 c = subst (λ (ss : List ℕ). Pushed ss (c .before .before .before .before .before .before .before .before .before .before .before .before .before .before .before .args .map .now) (c .before .before .before .before .before .before .before .before .before .before .before .before .before .before .before .args .scratch .now) (c .before .before .before .before .before .before .before .before .before .before .before .before .before .before .before .args .top) (c .before .before .before .before .push-elements .last .1 .0) (c .before .before .before .before .push-elements .last .1 .1 .0) (c .before .before .before .before .push-elements .result)) (sym (leads-vector (c .before .before .before .before .before .before .before .before .before .before .before .before .before .before .before .args .words .now) (c .before .before .before .before .before .before .before .before .before .before .before .before .before .before .before .args .elems .now) (c .before .before .before .before .before .before .before .before .before .before .before .before .before .before .before .args .slot) (c .before .before .before .before .before .before .before .before .before .before .before .before .before .before .before .pre .1 .0) (c .before .before .before .before .before .before .before .before .before .before .load .result) (c .before .before .before .before .before .before .before .before .before .before .load .ensures) (c .before .before .before .before .before .before .before .before .cell2 .given .0 .0) (c .before .before .before .before .before .before .before .before .cell2 .given .0 .1 .0) (c .before .before .before .before .before .before .before .before .cell2 .given .1) (c .before .before .before .before .before .before .before .before .before .before .before .before .before .before .before .pre .0))) (c .before .before .before .before .push-elements .ensures)
 
 returns-3 : tie.Need-returns-3
-returns-3 c = subst (λ (ss : List ℕ). Pushed ss (c .before .before .before .before .before .before .args .map .now) (c .before .before .before .before .before .before .args .scratch .now) (c .before .before .before .before .before .before .args .top) (c .before .before .before .before .before .before .args .map .now) (c .before .before .before .before .before .before .args .scratch .now) (c .before .before .before .before .before .before .args .top)) (sym (leads-nowhere (c .before .before .before .before .before .before .args .words .now) (c .before .before .before .before .before .before .args .elems .now) (c .before .before .before .before .before .before .args .slot) (c .before .before .before .before .before .before .pre .1 .0) (c .before .load .result) (c .before .load .ensures) (λ a d e. other-variant _ (c .match .keys3) (inl (ap (λ (x : VCell). tagOf the-type x) e))) (λ p n e. other-variant _ (c .match .keys3) (inr (ap (λ (x : VCell). tagOf the-type x) e))))) (pushed-none (c .before .before .before .before .before .before .args .map .now) (c .before .before .before .before .before .before .args .scratch .now) (c .before .before .before .before .before .before .args .top) (omega (arith, c .before .before .before .before .before .before .pre .1 .1 .room)))
+returns-3 c = subst (λ (ss : List ℕ). Pushed ss (c .before .before .before .before .before .before .args .map .now) (c .before .before .before .before .before .before .args .scratch .now) (c .before .before .before .before .before .before .args .top) (c .before .before .before .before .before .before .args .map .now) (c .before .before .before .before .before .before .args .scratch .now) (c .before .before .before .before .before .before .args .top)) (sym (leads-nowhere (c .before .before .before .before .before .before .args .words .now) (c .before .before .before .before .before .before .args .elems .now) (c .before .before .before .before .before .before .args .slot) (c .before .before .before .before .before .before .pre .1 .0) (c .before .load .result) (c .before .load .ensures) (λ a d e. other-cell but-parts _ (c .match .keys3) e refl) (λ p n e. other-cell but-parts _ (c .match .keys3) e refl))) (pushed-none (c .before .before .before .before .before .before .args .map .now) (c .before .before .before .before .before .before .args .scratch .now) (c .before .before .before .before .before .before .args .top) (omega (arith, c .before .before .before .before .before .before .pre .1 .1 .room)))
 
 pub push-cell-spec : {M : Type 1} → statement M
 push-cell-spec =

@@ -1,7 +1,7 @@
 -- `heap_read::build_value`: a slot by the build, a scalar by its node. Assumes nothing.
 use Rattle.heap_read.proofs.ValueLaws.{slot-task, slot-value, scalar-value}
 use Rattle.heap_build.proofs.Cycle.{value-scalar}
-use Rattle.heap_walk.proofs.KindLaws.{other-value}
+use Rattle.leaf_cells.proofs.Variants.{other-value}
 use native.Mathlib.Omega.{arith}
 use borrow.Author.Needs.{needs}
 use Rattle.heap_read.proofs.build_value.Statement.{statement}

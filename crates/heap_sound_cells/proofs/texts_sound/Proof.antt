@@ -1,5 +1,5 @@
 -- `heap_sound_cells::texts_sound`: paint that is clear at first. Assumes nothing.
-use Rattle.heap_sound_cells.proofs.FirstLaws.{all-clear}
+use Rattle.laws.proofs.Zeros.{all-zero}
 use borrow.Author.Needs.{needs}
 use Rattle.heap_sound_cells.proofs.texts_sound.Statement.{statement}
 use Rattle.heap_sound_cells.proofs.texts_sound.Tie as tie
@@ -13,7 +13,7 @@ slice-aggregate-texts c = search needs
 
 -- src/lib.rt:175:5
 texts-requires : tie.Need-texts-requires
-texts-requires c κs = (c .before .before .before .pre .0, (c .before .before .before .pre .1 .0, (c .before .before .before .pre .1 .1, λ x. all-clear 65536 x)))
+texts-requires c κs = (c .before .before .before .pre .0, (c .before .before .before .pre .1 .0, (c .before .before .before .pre .1 .1, λ x. all-zero 65536 x)))
 
 -- src/lib.rt:168:1
 returns : tie.Need-returns

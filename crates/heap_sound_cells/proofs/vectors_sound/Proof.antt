@@ -1,5 +1,5 @@
 -- `heap_sound_cells::vectors_sound`: paint that is clear at first. Assumes nothing.
-use Rattle.heap_sound_cells.proofs.FirstLaws.{all-clear}
+use Rattle.laws.proofs.Zeros.{all-zero}
 use borrow.Author.Needs.{needs}
 use Rattle.heap_sound_cells.proofs.vectors_sound.Statement.{statement}
 use Rattle.heap_sound_cells.proofs.vectors_sound.Tie as tie
@@ -13,7 +13,7 @@ slice-aggregate-vectors c = search needs
 
 -- src/lib.rt:238:5
 vectors-requires : tie.Need-vectors-requires
-vectors-requires c κs = (c .before .before .before .before .pre .0, (c .before .before .before .before .pre .1 .0, (c .before .before .before .before .pre .1 .1 .0, (c .before .before .before .before .pre .1 .1 .1, λ x. all-clear 16384 x))))
+vectors-requires c κs = (c .before .before .before .before .pre .0, (c .before .before .before .before .pre .1 .0, (c .before .before .before .before .pre .1 .1 .0, (c .before .before .before .before .pre .1 .1 .1, λ x. all-zero 16384 x))))
 
 -- src/lib.rt:230:1
 returns : tie.Need-returns

@@ -1,5 +1,5 @@
 -- `heap_sound_free::free_sound`: marks that are zero at first. Assumes nothing.
-use Rattle.heap_sound_free.proofs.TallyLaws.{all-zero}
+use Rattle.laws.proofs.Zeros.{all-zero}
 use borrow.Author.Needs.{needs}
 use Rattle.heap_sound_free.proofs.free_sound.Statement.{statement}
 use Rattle.heap_sound_free.proofs.free_sound.Tie as tie

@@ -1,5 +1,5 @@
 -- `heap_sound_table::table_sound`: marks that are zero at first. Assumes nothing.
-use Rattle.heap_sound_free.proofs.TallyLaws.{all-zero}
+use Rattle.laws.proofs.Zeros.{all-zero}
 use native.Mathlib.Omega.{arith}
 use borrow.Author.Needs.{needs}
 use Rattle.heap_sound_table.proofs.table_sound.Statement.{statement}

@@ -2,7 +2,8 @@
 -- slot to what its cell holds. Assumes nothing.
 use Rattle.heap_walk.proofs.Cycle.{slot-row, slot-mark, few, walk-ended, walk-nowhere, walk-again, parts-task, mark-low, walk-through, parts-row, car-task, cdr-task, pair-done, elements-task, vector-done, parts-none, Going, going-start, going-place, going-ends, element-task, going-on, element-here, element-slot, element-walked, element-scalar}
 use Rattle.heap_walk.specs.Tasks.{Job, ElementsTask}
-use Rattle.heap_walk.proofs.KindLaws.{other-cell, other-value}
+use Rattle.leaf_cells.proofs.Variants.{other-value}
+use Rattle.heap_walk.proofs.KindLaws.{no-parts}
 use lib.ListN.{length, length-set}
 use borrow.Author.Tests.{not-true, not-false}
 use mathlib.Core.Path.{_≡_, refl, sym, _∙_}
@@ -226,7 +227,7 @@ walk-parts-returns-2 : (t : ℕ) → walk-parts-lts.Need-returns-2 (walk-parts-c
 walk-parts-returns-2 t c = λ j k. vector-done j _ _ _ _ _ _ k (c .before .before .before .before .before .before .before .load .result) (c .before .before .before .before .before .before .before .load .ensures) _ _ (c .before .before .before .before .before .cell2 .given .1) _ _ (c .before .before .walk-elements .ensures _ (elements-task j _ _ _ _ _ _ k (c .before .before .before .before .before .before .before .load .result) (c .before .before .before .before .before .before .before .load .ensures) _ _ (c .before .before .before .before .before .cell2 .given .1)))
 
 walk-parts-returns-3 : (t : ℕ) → walk-parts-lts.Need-returns-3 (walk-parts-calls t) (walk-parts-at t) walk-parts.Post
-walk-parts-returns-3 t c = λ j k. parts-none j _ _ _ _ _ _ k (c .before .load .result) (c .before .load .ensures) (other-cell (c .before .load .result) (c .match .keys3))
+walk-parts-returns-3 t c = λ j k. parts-none j _ _ _ _ _ _ k (c .before .load .result) (c .before .load .ensures) (no-parts (c .before .load .result) (c .match .keys3))
 
 pub +walk+walk-element+walk-elements+walk-parts-spec : {M : Type 1} → statement M
 +walk+walk-element+walk-elements+walk-parts-spec =

@@ -1,5 +1,5 @@
 -- `heap_walk::has_parts`: by the cell's kind. Assumes nothing.
-use Rattle.heap_walk.proofs.KindLaws.{other-cell}
+use Rattle.heap_walk.proofs.KindLaws.{no-parts}
 use Rattle.heap_walk.specs.Walks.{has-parts}
 use Rattle.leaf_cells.specs.Cells.{cell-of}
 use Rattle.leaf_cells.specs.declared.VCell.{VCell}
@@ -24,7 +24,7 @@ returns-2 : tie.Need-returns-2
 returns-2 c = ap (λ (x : VCell). has-parts (cell-of x)) (sym (c .enum-told2 .given .1)) ∙ ap has-parts (c .before .before .load .ensures)
 
 returns-3 : tie.Need-returns-3
-returns-3 c = sym (other-cell (c .before .load .result) (c .match .keys3)) ∙ ap has-parts (c .before .load .ensures)
+returns-3 c = sym (no-parts (c .before .load .result) (c .match .keys3)) ∙ ap has-parts (c .before .load .ensures)
 
 pub has-parts-spec : {M : Type 1} → statement M
 has-parts-spec =

@@ -1,6 +1,6 @@
 -- `heap_walk::label`: the walk from a slot with nothing met; a scalar leads nowhere. Assumes nothing.
 use Rattle.heap_walk.proofs.Cycle.{some-words, capacity-most, first-task, first-done, scalar-done}
-use Rattle.heap_walk.proofs.KindLaws.{other-value}
+use Rattle.leaf_cells.proofs.Variants.{other-value}
 use Rattle.leaf_cells.specs.Elements.{value-of}
 use native.Mathlib.Omega.{arith}
 use mathlib.Core.Path.{sym, ap}

@@ -1,5 +1,5 @@
 -- `leaf_cells::text`: the part from the place to the end. Assumes nothing.
-use Rattle.leaf_cells.proofs.RoomLaws.{part-end}
+use Rattle.laws.proofs.Writing.{part-end}
 use borrow.Author.Needs.{needs}
 use Rattle.leaf_cells.proofs.text.Statement.{statement}
 use Rattle.leaf_cells.proofs.text.Tie as tie
