@@ -1,6 +1,6 @@
-// The checked doors of the two stores. Document 01, "Cells": "Cell store: a scalar or a pair of used slots. Element store: a scalar
-// or a used slot. Any other kind given is 11." Their refusals are 20, 11, 14 and 15. They take any lists and any numbers. "A
-// refusal answers its number only, and leaves heap and output as they stood."
+// The checked doors of the two stores. Document 01, "Slots and growth": "Cell store: a scalar or a pair of used slots into a used
+// slot. Element store: a scalar or a used slot. Any other kind given is 11." Their refusals are 20, 11, 14 and 15. They take any
+// lists and any numbers. "A refusal answers its number only, and leaves heap and output as they stood."
 ghost use mathlib.Core.Path.{_≡_};
 ghost use mathlib.Core.Bool.{true};
 ghost use Rattle.rules.specs.Sound.{sound};

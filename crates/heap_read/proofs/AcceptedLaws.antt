@@ -1,4 +1,4 @@
--- "What a read writes is a datum that put's check accepts", for a heap that stands in lists of 64-bit words. Assumes nothing.
+-- What a read writes is a datum that put's check accepts, for a heap that stands in lists of 64-bit words. Assumes nothing.
 use mathlib.Core.Path.{_≡_, subst}
 use mathlib.Core.Bool.{true}
 use mathlib.Core.List.{List}

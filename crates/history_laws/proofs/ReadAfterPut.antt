@@ -1,5 +1,6 @@
--- What is in use reads and compares the same in a heap that has grown, where it shows what it showed: the walk of a reading is bounded by the
--- capacity, and any larger bound walks the same way, since a path has each slot once. Document 01, "Reading back". Assumes nothing.
+-- What is in use reads and compares the same in a heap that has grown, where it shows what it showed: the walk of a reading is
+-- bounded by the capacity, and any larger bound walks the same way, since a path has each slot once. Document 01, "Reading back".
+-- Assumes nothing.
 use mathlib.Core.Path.{_≡_, refl, sym, ap, _∙_, subst}
 use mathlib.Core.Bool.{Bool, true, false}
 use mathlib.Core.List.{List, [], _∷_, List·Memᴰ·head, List·Memᴰ·tail}

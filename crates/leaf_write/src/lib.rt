@@ -2,7 +2,7 @@
 // and "A datum: 4,096 nodes".
 //
 // A write past the output's end is left out, so that lending an empty part counts the bytes and writes none: that is how a
-// read finds 12 and 18 "before a byte is written".
+// read finds 12 and 18 before a byte is written.
 use leaf_cells::Words;
 ghost use mathlib.Core.Path.{_≡_};
 ghost use mathlib.Core.List.{_∷_};

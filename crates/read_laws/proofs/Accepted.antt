@@ -1,4 +1,4 @@
--- "What a read writes is a datum that put's check accepts": its fields are in their widths and keep 11's rules, it is within
+-- What a read writes is a datum that put's check accepts: its fields are in their widths and keep 11's rules, it is within
 -- 12's numbers, no label is referred to early (13), and its bytes parse back to it. Assumes nothing.
 use mathlib.Core.Path.{_≡_, refl, sym, ap, _∙_, subst}
 use mathlib.Core.Bool.{Bool, true, false}

@@ -1,6 +1,7 @@
 -- Every public call, as one definition from the lent lists at entry to the answer and the lent lists at exit, refusals in
--- the order of document 01's table. A list that a call is lent only to read has no value at exit here: it stays as it is. "A refusal answers its number only, and leaves heap and output as they stood."
--- "On return scratch is all zero, except after 19 or 20, which leave it untouched." Assumes nothing.
+-- the order of document 01's table (a read looks at 14 before 12, which a slot that is not in use cannot give). A list that a call is
+-- lent only to read has no value at exit here: it stays as it is. "A refusal answers its number only, and leaves heap and output as
+-- they stood." "On return scratch is all zero, except after 19 or 20, which leave it untouched." Assumes nothing.
 use mathlib.Core.Path.{_≡_}
 use mathlib.Core.Bool.{Bool, true, false, not}
 use mathlib.Core.List.{List, [], _∷_, _++_}

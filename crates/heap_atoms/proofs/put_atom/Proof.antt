@@ -1,3 +1,4 @@
+-- `heap_atoms::put_atom`: by the shape of the node, a scalar, a text, a name or a reference. Assumes nothing.
 use borrow.Author.Needs.{needs}
 use native.Mathlib.Omega.{arith}
 use Rattle.heap_atoms.proofs.Atoms.{inside-text, inside-datum, handed, plain-done, ref-done, string-open-on, string-done-on, symbol-open-on, symbol-done-on, ident-open-on, ident-done-on, never-pair, never-vector, never-label, never-faulty, answered}

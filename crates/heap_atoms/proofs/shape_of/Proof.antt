@@ -1,3 +1,4 @@
+-- `heap_atoms::shape_of`: kind by kind. Assumes nothing.
 use borrow.Author.Needs.{needs}
 use Rattle.heap_atoms.proofs.Atoms.{node-shape}
 use Rattle.heap_atoms.proofs.shape_of.Statement.{statement}

@@ -1,3 +1,4 @@
+-- `heap_labels::define`: a label that is there gets its new slot, another is added behind the rest. Assumes nothing.
 use borrow.Author.Needs.{needs}
 use native.Mathlib.Omega.{arith}
 use lib.ListN.{length-set}

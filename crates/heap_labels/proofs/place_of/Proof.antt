@@ -1,3 +1,4 @@
+-- `heap_labels::place_of`: the labels one after the other. Assumes nothing.
 use borrow.Author.Needs.{needs}
 use borrow.Author.Count.{below-more}
 use mathlib.Core.Path.{_≡_}

@@ -1,3 +1,4 @@
+-- `heap_labels::slot_of`: the slot at the label's place. Assumes nothing.
 use borrow.Author.Needs.{needs}
 use native.Mathlib.Omega.{arith}
 use Rattle.heap_labels.proofs.LabelLaws.{slot-there, slot-gone}

@@ -1,3 +1,4 @@
+-- The cycle of `heap_put`: datum, pair, vector and label, with the nodes left falling. Assumes nothing.
 use borrow.Author.Needs.{needs}
 use Prim.Native.Nat.{ℕ, _+_, _-_, _*_, _<_, _≤_}
 use mathlib.Core.Path.{_≡_, refl, sym, ap, _∙_}

@@ -1,3 +1,4 @@
+-- `heap_steps::copy_cell`: the cell of one slot in another. Assumes nothing.
 use borrow.Author.Needs.{needs}
 use mathlib.Core.Path.{_≡_, sym, ap, _∙_}
 use Rattle.heap_steps.specs.Places.{shown-place}

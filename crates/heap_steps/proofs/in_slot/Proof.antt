@@ -1,3 +1,4 @@
+-- `heap_steps::in_slot`: a slot stays, a scalar gets a new one. Assumes nothing.
 use borrow.Author.Needs.{needs}
 use mathlib.Core.Path.{_≡_, sym, ap, _∙_}
 use Rattle.heap_steps.specs.Places.{shown-place}

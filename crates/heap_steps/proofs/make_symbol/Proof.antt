@@ -1,3 +1,4 @@
+-- `heap_steps::make_symbol`: its name, its slot, its entry. Assumes nothing.
 use borrow.Author.Needs.{needs}
 use Rattle.heap_steps.proofs.CellSteps.{header-on, text-fits-on, open-after}
 use Rattle.heap_steps.proofs.SymbolSteps.{entry-row, symbol-made}

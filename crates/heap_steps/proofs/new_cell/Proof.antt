@@ -1,3 +1,4 @@
+-- `heap_steps::new_cell`: a slot given, and the cell stored there. Assumes nothing.
 use borrow.Author.Needs.{needs}
 use Rattle.heap_steps.proofs.CellSteps.{can-alloc-on, row-on, made-on}
 use Rattle.heap_steps.proofs.new_cell.Statement.{statement}

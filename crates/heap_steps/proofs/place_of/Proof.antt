@@ -1,3 +1,4 @@
+-- `heap_steps::place_of`: value by value. Assumes nothing.
 use borrow.Author.Needs.{needs}
 use mathlib.Core.Path.{sym, ap}
 use Rattle.leaf_cells.specs.Elements.{value-of}

@@ -1,3 +1,4 @@
+-- `heap_steps::put_string`: its text at the end of the room in use, then its cell. Assumes nothing.
 use borrow.Author.Needs.{needs}
 use Rattle.heap_steps.proofs.CellSteps.{header-on, text-fits-on, open-after, string-put}
 use Rattle.heap_steps.proofs.put_string.Statement.{statement}

@@ -1,3 +1,4 @@
+-- `heap_steps::put_symbol`: found, or made. Assumes nothing.
 use borrow.Author.Needs.{needs}
 use mathlib.Core.Path.{_≡_, sym, ap, _∙_}
 use Rattle.leaf_symbols.specs.Table.{shown-found}
