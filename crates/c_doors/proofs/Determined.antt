@@ -6,7 +6,6 @@ use mathlib.Core.Path.{◌≡◌, sym, ap, subst, ◌∙◌}
 use mathlib.Core.List.{List}
 use Prim.Native.Nat.{ℕ}
 use Rattle.rules.specs.Refusals.{Answer}
-use Rattle.rules.specs.Cells.{Block}
 use Rattle.rules.specs.Layout.{Lent}
 use Rattle.rules.specs.Calls.{put_call, read_call, collect_call, Stored, cell_store, element_store, eqv_call, EqualLeft, EqualCall, setup, text_call, capacity_call, free_call, used_call}
 use Rattle.doors_equal.proofs.Determined.{one_call}

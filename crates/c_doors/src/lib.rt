@@ -1,6 +1,9 @@
-// The doors once more, for a host in C or Rust to link: the calls of document 01 over numbers and lent lists, in no other words
-// than the doors'. A slice is a pointer and then a length. Each answers "0 or the refusal", by document 01's number, and gives
-// what was asked for through its last parameters: "A refusal answers its number only, and leaves heap and output as they stood."
+// The doors once more, for a host in C or Rust to link (c_doors_c exports them): the calls of document 01 over numbers and
+// lent lists, in no other words than the doors'. A slice is a pointer and then a length. Each answers "0 or the refusal", by
+// document 01's number, and gives what was asked for through its last parameters: "A refusal answers its number only, and
+// leaves heap and output as they stood."
+#![tactic(auto)]
+
 ghost use Rattle.std.specs.Prelude.{◌≡◌};
 ghost use Rattle.rules.specs.Refusals.{told};
 ghost use Rattle.rules.specs.Calls.{setup, put_call, read_call, collect_call, cell_store, element_store, eqv_call, EqualCall, text_call, capacity_call, free_call, used_call};
@@ -13,8 +16,7 @@ ghost use Rattle.doors_read.specs.Answers.{read_answer};
 ghost use Rattle.c_doors.specs.Told.{Told, ToldBlock, ToldSetup, ToldPut, ToldRead, ToldCollect, ToldStore, ToldTruth, ToldEqual};
 
 // "10 | setup, which gives no other": a fresh heap in the lent lists, whatever they held.
-#[unsafe(no_mangle)]
-pub extern "C" fn talvongre_setup(
+pub fn talvongre_setup(
     words: &mut [u64],
     map: &mut [u8],
     bytes: &mut [u8],
@@ -50,8 +52,7 @@ fn tell_slot(a: doors::PutAnswer, slot: &mut u64) -> u32
 }
 
 // Puts a lent datum: 20, 19, 11, 12, 13, 16 or 17, or 0 and its slot.
-#[unsafe(no_mangle)]
-pub extern "C" fn talvongre_put(
+pub fn talvongre_put(
     words: &mut [u64],
     map: &mut [u8],
     bytes: &mut [u8],
@@ -85,8 +86,7 @@ fn tell_length(a: doors_read::ReadAnswer, length: &mut u64) -> u32
 }
 
 // Reads a value into the lent output: 20, 19, 11, 12, 14 or 18, or 0 and the length written.
-#[unsafe(no_mangle)]
-pub extern "C" fn talvongre_read(
+pub fn talvongre_read(
     words: &[u64],
     map: &[u8],
     bytes: &[u8],
@@ -116,8 +116,7 @@ fn tell_collect(a: doors_collect::CollectAnswer) -> u32
 }
 
 // Keeps what the roots reach: 20, 19 or 14, or 0.
-#[unsafe(no_mangle)]
-pub extern "C" fn talvongre_collect(
+pub fn talvongre_collect(
     words: &mut [u64],
     map: &mut [u8],
     bytes: &mut [u8],
@@ -145,8 +144,7 @@ fn tell_store(a: doors_store::StoreAnswer) -> u32
 }
 
 // "Cell store: a scalar or a pair of used slots into a used slot": 20, 11, 14 or 15, or 0.
-#[unsafe(no_mangle)]
-pub extern "C" fn talvongre_cell_store(
+pub fn talvongre_cell_store(
     words: &mut [u64],
     map: &[u8],
     bytes: &[u8],
@@ -163,8 +161,7 @@ pub extern "C" fn talvongre_cell_store(
 }
 
 // "Element store: a scalar or a used slot": 20, 11, 14 or 15, or 0.
-#[unsafe(no_mangle)]
-pub extern "C" fn talvongre_element_store(
+pub fn talvongre_element_store(
     words: &[u64],
     map: &[u8],
     bytes: &[u8],
@@ -196,8 +193,7 @@ fn tell_eqv(a: doors_equal::EqvAnswer, truth: &mut u64) -> u32
 }
 
 // `eqv` of two values: 20, 11 or 14, or 0 and the truth.
-#[unsafe(no_mangle)]
-pub extern "C" fn talvongre_eqv(
+pub fn talvongre_eqv(
     words: &[u64],
     map: &[u8],
     bytes: &[u8],
@@ -231,8 +227,7 @@ fn tell_equal(a: doors_equal::EqualAnswer, truth: &mut u64) -> u32
 }
 
 // `equal` of two values: 20, 19, 11 or 14, or 0 and the truth.
-#[unsafe(no_mangle)]
-pub extern "C" fn talvongre_equal(
+pub fn talvongre_equal(
     words: &[u64],
     map: &[u8],
     bytes: &[u8],
@@ -267,8 +262,7 @@ fn tell_block(a: doors::TextBlock, place: &mut u64, size: &mut u64) -> u32
 }
 
 // "A string or name is read as the part of the byte arena that holds it": 20, 14 or 15, or 0 with that part's place and size.
-#[unsafe(no_mangle)]
-pub extern "C" fn talvongre_text(
+pub fn talvongre_text(
     words: &[u64],
     map: &[u8],
     bytes: &[u8],
@@ -297,8 +291,7 @@ fn tell_count(a: doors::CountAnswer, count: &mut u64) -> u32
 }
 
 // The capacity: 20, or 0 and the count.
-#[unsafe(no_mangle)]
-pub extern "C" fn talvongre_capacity(
+pub fn talvongre_capacity(
     words: &[u64],
     map: &[u8],
     bytes: &[u8],
@@ -312,8 +305,7 @@ pub extern "C" fn talvongre_capacity(
 }
 
 // The free count, the free list's length: 20, or 0 and the count.
-#[unsafe(no_mangle)]
-pub extern "C" fn talvongre_free(
+pub fn talvongre_free(
     words: &[u64],
     map: &[u8],
     bytes: &[u8],
@@ -327,8 +319,7 @@ pub extern "C" fn talvongre_free(
 }
 
 // The used count, capacity less the free list: 20, or 0 and the count.
-#[unsafe(no_mangle)]
-pub extern "C" fn talvongre_used(
+pub fn talvongre_used(
     words: &[u64],
     map: &[u8],
     bytes: &[u8],

@@ -2,7 +2,7 @@
 use mathlib.Core.Path.{◌≡◌, ap, ◌∙◌}
 use mathlib.Core.Bool.{true, false}
 use mathlib.Core.List.{List}
-use Prim.Native.Nat.{ℕ, ◌+◌, ◌*◌, ◌≤◌}
+use Prim.Native.Nat.{ℕ}
 use native.Mathlib.Omega.{arith}
 use borrow.Author.Tests.{ltb-false}
 use lib.Dec.{ltb}
@@ -14,7 +14,7 @@ use Rattle.rules.specs.Heap.{Heap}
 use Rattle.rules.specs.Layout.{Lent, header}
 use Rattle.rules.specs.Sound.{sound}
 use Rattle.rules.specs.Calls.{Left, left, cleared, put_tree, put_call}
-use Rattle.rules.proofs.SoundLaws.{clauses, bounds, capacity_lent}
+use Rattle.rules.proofs.SoundLaws.{capacity_lent}
 use Rattle.heap_put_whole.specs.Whole.{put_behind, Ready}
 use Rattle.heap_given.proofs.CheckedLaws.{checked_unsound, checked_short, checked_on}
 

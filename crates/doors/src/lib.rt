@@ -1,6 +1,8 @@
 // The checked doors: document 01's calls on lists that a caller lends. Each takes any lists and any numbers. It tests soundness
 // (20), then what it was given, and calls the heap's own function by its contract. "A refusal answers its number only, and leaves
 // heap and output as they stood." Allocating, freeing and marking are no calls.
+#![tactic(auto)]
+
 ghost use Rattle.std.specs.Prelude.{◌≡◌};
 ghost use Rattle.rules.specs.Refusals.{told};
 ghost use Rattle.rules.specs.Calls.{left, put_call, setup, text_in, text_call, text_part, text_told, capacity_call, free_call};
@@ -10,7 +12,7 @@ ghost use Rattle.heap_put_whole.specs.Whole.{answer_of};
 ghost use Rattle.doors.specs.Answers.{set_up, put_answer, count_answer, Used, text_answer, block_answer};
 
 // Setup's answer: the heap is fresh, or 10.
-#[derive(Drop)]
+#[derive(Clone, Copy)]
 pub enum SetupAnswer {
     Done,
     BadSetup,
@@ -34,7 +36,7 @@ pub fn setup(
 }
 
 // What a put answers: the datum's slot, or 20, 19, 11 with what is wrong and at which node, 12, 13, 16 or 17.
-#[derive(Drop)]
+#[derive(Clone, Copy)]
 pub enum PutAnswer {
     Slot(u64),
     Unsound,
@@ -81,7 +83,7 @@ pub fn put(
 }
 
 // A count's answer: the count, or 20.
-#[derive(Drop)]
+#[derive(Clone, Copy)]
 pub enum CountAnswer {
     Count(u64),
     Unsound,
@@ -119,7 +121,7 @@ pub fn used(words: &[u64], map: &[u8], bytes: &[u8], elems: &[u64]) -> CountAnsw
 }
 
 // Where a text is: its place and length in the byte arena, or 20, 14 or 15.
-#[derive(Drop)]
+#[derive(Clone, Copy)]
 pub enum TextBlock {
     Held(usize, usize),
     Unsound,
@@ -165,7 +167,7 @@ pub fn text<'a>(words: &[u64], map: &[u8], bytes: &'a [u8], elems: &[u64], slot:
 }
 
 // What is told of a text: it is held, or 20, 14 or 15.
-#[derive(Drop)]
+#[derive(Clone, Copy)]
 pub enum TextAnswer {
     Held,
     Unsound,

@@ -2,7 +2,7 @@
 use mathlib.Core.Path.{◌≡◌, refl, sym, ap, ◌∙◌}
 use mathlib.Core.Bool.{Bool, true, false, not}
 use mathlib.Core.List.{List, [], ◌∷◌}
-use Prim.Native.Nat.{ℕ, ◌%◌, ◌≤◌}
+use Prim.Native.Nat.{ℕ, ◌%◌}
 use native.Mathlib.Omega.{arith}
 use borrow.Author.Tests.{ltb-false}
 use lib.Dec.{ltb}
@@ -10,7 +10,7 @@ use lib.ListN.{length, get_or}
 use Rattle.laws.specs.Basics.{every, zeros}
 use Rattle.rules.specs.Numbers.{scratch_words}
 use Rattle.rules.specs.Refusals.{accepted, refused, unsound, short_scratch, no_such_slot, ◌⇒◌, unless, refusals}
-use Rattle.rules.specs.Heap.{Heap, capacity, in_use}
+use Rattle.rules.specs.Heap.{Heap, in_use}
 use Rattle.rules.specs.Layout.{Lent, rooms_of, heap_of, lent_of, header, layout_rules}
 use Rattle.rules.specs.Sound.{sound}
 use Rattle.rules.specs.Collect.{collect}

@@ -1,13 +1,15 @@
 // The checked door of the collection. Document 01, "Slots and growth"; its refusals are 20, 19 and 14 for a root, which is found
 // before anything is marked. It takes any lists and any roots. "A refusal answers its number only, and leaves heap and output as
 // they stood."
+#![tactic(auto)]
+
 ghost use Rattle.std.specs.Prelude.{◌≡◌};
 ghost use Rattle.rules.specs.Calls.{left, collect_call};
 ghost use Rattle.heap_sound_rows.specs.Rows.{lists};
 ghost use Rattle.doors_collect.specs.Answers.{collect_answer};
 
 // What a collection answers: it is done, or 20, 19 or 14.
-#[derive(Drop)]
+#[derive(Clone, Copy)]
 pub enum CollectAnswer {
     Done,
     Unsound,

@@ -1,6 +1,8 @@
 // The checked doors of equality. Document 01, "Equality"; the refusals of `eqv` are 20, 11 and 14, those of `equal` 20, 19, 11 and 14.
 // They take any lists and any numbers; `eqv` takes no scratch. "A refusal answers its number only, and leaves heap and output as
 // they stood." The heap is only read.
+#![tactic(auto)]
+
 ghost use Rattle.std.specs.Prelude.{◌≡◌, true, false, ltb, length, get_or};
 ghost use Rattle.rules.specs.Numbers.{scratch_words};
 ghost use Rattle.rules.specs.Layout.{heap_of};
@@ -12,7 +14,7 @@ ghost use Rattle.doors_equal.specs.Answers.{eqv_answer, equal_left};
 ghost use Rattle.doors_equal.specs.Behind.{eqv_behind, second_behind, EqualSecond};
 
 // What `eqv` answers: whether the two are alike, or 20, 11 with what is wrong, or 14.
-#[derive(Drop)]
+#[derive(Clone, Copy)]
 pub enum EqvAnswer {
     Truth(bool),
     Unsound,
@@ -86,7 +88,7 @@ pub fn eqv(
 }
 
 // What `equal` answers: whether the two are equal, or 20, 19, 11 with what is wrong, or 14.
-#[derive(Drop)]
+#[derive(Clone, Copy)]
 pub enum EqualAnswer {
     Truth(bool),
     Unsound,

@@ -1,6 +1,8 @@
 // The checked door of reading. Document 01, "Reading back"; its refusals are 20, 19, 11, 12, 14 and 18, in that order of the
 // table. It takes any lists and any numbers. "A refusal answers its number only, and leaves heap and output as they stood."
 // "Output past an answer stays."
+#![tactic(auto)]
+
 ghost use Rattle.std.specs.Prelude.{◌≡◌, true, false, ltb, length, get_or};
 ghost use Rattle.rules.specs.Numbers.{scratch_words};
 ghost use Rattle.rules.specs.Layout.{heap_of};
@@ -12,7 +14,7 @@ ghost use Rattle.heap_read.specs.Whole.{answer_of};
 ghost use Rattle.doors_read.specs.Answers.{read_answer, read_left};
 
 // What a read answers: the length written, or 20, 19, 11 with what is wrong, 12, 14 or 18.
-#[derive(Drop)]
+#[derive(Clone, Copy)]
 pub enum ReadAnswer {
     Length(u64),
     Unsound,

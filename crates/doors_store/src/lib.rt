@@ -1,6 +1,8 @@
 // The checked doors of the two stores. Document 01, "Slots and growth": "Cell store: a scalar or a pair of used slots into a used
 // slot. Element store: a scalar or a used slot. Any other kind given is 11." Their refusals are 20, 11, 14 and 15. They take any
 // lists and any numbers. "A refusal answers its number only, and leaves heap and output as they stood."
+#![tactic(auto)]
+
 ghost use Rattle.std.specs.Prelude.{◌≡◌, true};
 ghost use Rattle.rules.specs.Sound.{sound};
 ghost use Rattle.rules.specs.Calls.{stored, cell_store, element_store};
@@ -12,7 +14,7 @@ ghost use Rattle.doors_store.specs.Answers.{store_answer};
 ghost use Rattle.doors_store.specs.Behind.{cell_behind, element_behind};
 
 // What a store answers: it is done, or 20, 11 with what is wrong, 14 or 15.
-#[derive(Drop)]
+#[derive(Clone, Copy)]
 pub enum StoreAnswer {
     Done,
     Unsound,

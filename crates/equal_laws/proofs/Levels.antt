@@ -23,6 +23,7 @@ use Rattle.equal_laws.proofs.Eqv.{never, look, eqv_cells_look, eqv_cells_sym, eq
 module _ {A : Type 0} (f : A → Bool) where
   pub every_member : (l : List A) → every f l ≡ true → (a : A) → Memᴰ a l → f a ≡ true
   unfolding basics
+  every_member [] e a x'' = elim x'' [ ]
   every_member (x ∷ l) e a (Memᴰ.head p) = ap f p ∙ both_left (f x) _ e
   every_member (x ∷ l) e a (Memᴰ.tail m) = every_member l (both_right (f x) _ e) a m
 

@@ -1,5 +1,5 @@
 -- A heap in the making, in the lent lists: what a part of a put finds, and what it must leave. Assumes nothing.
-use Rattle.std.specs.Prelude.{◌≡◌, true, List, ◌++◌, ℕ, ◌*◌, ◌≤◌, ltb, length}
+use Rattle.std.specs.Prelude.{◌≡◌, true, List, ℕ, ◌*◌, ◌≤◌, ltb, length}
 use Rattle.laws.specs.Basics.{every, join}
 use Rattle.rules.specs.Heap.{Entry, capacity, used_count, fitting, most_growths}
 use Rattle.rules.specs.Layout.{Rooms, words_of, map_bytes, filled, value_words}

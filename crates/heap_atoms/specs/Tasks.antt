@@ -2,12 +2,10 @@
 -- are those of the rules' put of that tree. Assumes nothing.
 use Rattle.std.specs.Prelude.{◌≡◌, true, List, ◌++◌, ℕ, ◌+◌, ◌*◌, ◌<◌, ◌≤◌, length}
 use Rattle.laws.specs.Basics.{every, join}
-use Rattle.rules.specs.Cells.{Cell}
 use Rattle.rules.specs.Nodes.{Atom, Node, write_node, node_fits}
-use Rattle.rules.specs.Datum.{Datum, Data, pair, vector, def, how_many, encode, datum_fits, all_nodes}
-use Rattle.rules.specs.Heap.{capacity, shown}
+use Rattle.rules.specs.Datum.{Datum, Data, how_many, encode, datum_fits, all_nodes}
 use Rattle.rules.specs.Layout.{Rooms, words_of, map_bytes, filled}
-use Rattle.rules.specs.Put.{Making, Put, in_slot, slot_in, put_atom, put, put_all, store_at}
+use Rattle.rules.specs.Put.{Making, in_slot, slot_in, put_atom, put, put_all, store_at}
 use Rattle.leaf_cells.specs.Elements.{value_of}
 use Rattle.leaf_cells.specs.declared.Value.{Value}
 use Rattle.heap_labels.specs.Labels.{labels_in}

@@ -1,5 +1,7 @@
 // The parts of a put that hold no other datum: scalars, texts and references to labels; and what kind of node a datum
 // begins with. Document 01, "Slots and growth".
+#![tactic(auto)]
+
 ghost use Rattle.std.specs.Prelude.{◌≡◌, List, ℕ};
 ghost use Rattle.rules.specs.Nodes.{Atom, read_node};
 ghost use Rattle.rules.specs.Datum.{atom};
@@ -13,7 +15,7 @@ use leaf_cells::Value;
 use leaf_nodes::Node;
 
 // A datum that was put: its value, the bytes that it took of the lent datum, and how many labels there are now.
-#[derive(Drop)]
+#[derive(Clone, Copy)]
 pub struct Put {
     pub value: Value,
     pub size: usize,
@@ -21,7 +23,7 @@ pub struct Put {
 }
 
 // What a datum begins with.
-#[derive(Drop)]
+#[derive(Clone, Copy)]
 pub enum Shape {
     Atom,
     Pair,

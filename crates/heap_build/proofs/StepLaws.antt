@@ -89,7 +89,7 @@ module _ (one : Value → Draft → Option Draft) (h : Heap) where
 
 pub draft_step : (n : ℕ) (h : Heap) (labels : List ℕ) (s : ℕ) (d : Draft) → d.left ≤ n → draft n h labels (slot s) d ≡ draft_slot (λ v d. draft (n - 1) h labels v d) h labels s d
 unfolding draft
-draft_step zero h labels s d few = sym (slot_none _ h labels s d (omega arith))
+draft_step zero h labels s d few = sym (slot_none (λ v d. draft (0 - 1) h labels v d) h labels s d (omega arith))
 draft_step (suc n) h labels s d few =
     let e : n ≡ suc n - 1 = omega arith in
     ap (λ (k : ℕ). draft_slot (λ v d. draft k h labels v d) h labels s d) e

@@ -5,13 +5,15 @@
 // The builder recurses over slots, and the nodes that may still be written fall. The scratch has a word for each slot, as the
 // walk left it: four for each label, counted from 1, and what is over tells whether the label's definition has begun: 2 says
 // so. What is written past the end of the output is left out, so that an empty part counts the bytes.
+#![tactic(auto)]
+
 ghost use Rattle.heap_build.specs.Tasks.{Job, Task, Done, CellTask, CellDone, PairTask, PairDone, VectorTask, VectorDone, ElementsTask, ElementsDone, ElementTask, ElementDone};
 
 use leaf_cells::{VCell, Value};
 use leaf_write::Page;
 
 // Builds what a slot shows: a labelled one is a definition at first meeting and a reference later.
-#[cycle(build_build_cell_build_element_build_elements_build_pair_build_vector)]
+#[cycle(building)]
 pub fn build(
     words: &[u64],
     bytes: &[u8],
@@ -40,7 +42,7 @@ pub fn build(
 }
 
 // Builds a slot's cell.
-#[cycle(build_build_cell_build_element_build_elements_build_pair_build_vector)]
+#[cycle(building)]
 fn build_cell(
     words: &[u64],
     bytes: &[u8],
@@ -64,7 +66,7 @@ fn build_cell(
 }
 
 // A pair: car, then cdr.
-#[cycle(build_build_cell_build_element_build_elements_build_pair_build_vector)]
+#[cycle(building)]
 fn build_pair(
     words: &[u64],
     bytes: &[u8],
@@ -90,7 +92,7 @@ fn build_pair(
 }
 
 // A vector: how many elements, then each.
-#[cycle(build_build_cell_build_element_build_elements_build_pair_build_vector)]
+#[cycle(building)]
 fn build_vector(
     words: &[u64],
     bytes: &[u8],
@@ -112,7 +114,7 @@ fn build_vector(
 }
 
 // The n elements from a place on.
-#[cycle(build_build_cell_build_element_build_elements_build_pair_build_vector)]
+#[cycle(building)]
 fn build_elements(
     words: &[u64],
     bytes: &[u8],
@@ -139,7 +141,7 @@ fn build_elements(
 }
 
 // The element at a place.
-#[cycle(build_build_cell_build_element_build_elements_build_pair_build_vector)]
+#[cycle(building)]
 fn build_element(
     words: &[u64],
     bytes: &[u8],

@@ -2,12 +2,14 @@
 // 11 ("unknown kind, cut short, nodes left over, Bool not 0 or 1, Char or UTF-8 not allowed"), then 12 (the numbers of a
 // datum), then 13 ("a label is referred to before a definition of it has begun"). One loop over the nodes, with a count
 // of the data that are still wanted and a tally of the nodes so far.
+#![tactic(auto)]
+
 ghost use Rattle.std.specs.Prelude.{◌≡◌};
 ghost use Rattle.heap_check.specs.Verdict.{verdict, checked_of};
 ghost use Rattle.heap_tally.specs.Pass.{tally_of, judged};
 
 // What a datum is found to be. A malformed one says what is wrong and at which node, counted from 0 in the datum's order.
-#[derive(Drop)]
+#[derive(Clone, Copy)]
 pub enum Checked {
     Good,
     Malformed(leaf_nodes::Fault, usize),

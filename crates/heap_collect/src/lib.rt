@@ -1,5 +1,7 @@
 // The collection as one call, behind the door's tests: mark what the roots reach, sweep the rest, pack the arenas, clear the
 // scratch. Document 01: "Added by this port: .. the collection as one call"; "On return scratch is all zero".
+#![tactic(auto)]
+
 ghost use Rattle.std.specs.Prelude.{◌≡◌};
 ghost use Rattle.rules.specs.Calls.{cleared};
 ghost use Rattle.rules.specs.Collect.{collect};

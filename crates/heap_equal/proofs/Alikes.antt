@@ -1,9 +1,9 @@
 -- Two values that should be `equal`, by what the code finds of them. Assumes nothing.
+use borrow.Enum.Refused.{Among, opened, not_key}
 use mathlib.Core.Path.{◌≡◌, refl, sym, ap, ◌∙◌, subst}
 use mathlib.Core.Bool.{Bool, true, false, not}
 use mathlib.Core.List.{List, [], ◌∷◌}
-use mathlib.Core.Logic.{◌⊎◌, ⊎_elim}
-use Prim.Native.Nat.{ℕ, suc, ◌+◌, ◌*◌, ◌≤◌, ◌<◌}
+use Prim.Native.Nat.{ℕ, ◌+◌, ◌*◌, ◌≤◌, ◌<◌}
 use native.Mathlib.Omega.{arith}
 use borrow.Author.Tests.{not-true, not-false}
 use lib.ListN.{length}
@@ -31,10 +31,8 @@ use Rattle.heap_equal.proofs.Moves.{step_fails, needless, pair_room, pair_pushed
 -- ---- the variants of a value
 
 -- a variant from 1 on is not the first
-pub not_first : (x : ℕ) → (x ≡ 1) ⊎ ((x ≡ 2) ⊎ ((x ≡ 3) ⊎ ((x ≡ 4) ⊎ ((x ≡ 5) ⊎ ((x ≡ 6) ⊎ (x ≡ 7)))))) → x ≡ 0 → ⊥
-not_first x o z =
-    let off : (k : ℕ) → x ≡ suc k → ⊥ = λ k e. omega arith in
-    ⊎_elim (off 0) (⊎_elim (off 1) (⊎_elim (off 2) (⊎_elim (off 3) (⊎_elim (off 4) (⊎_elim (off 5) (off 6)))))) o
+pub not_first : (x : ℕ) → Among (1 ∷ 2 ∷ 3 ∷ 4 ∷ 5 ∷ 6 ∷ 7 ∷ []) x → x ≡ 0 → ⊥
+not_first x o is = not_key (1 ∷ 2 ∷ 3 ∷ 4 ∷ 5 ∷ 6 ∷ 7 ∷ []) 0 tt x (opened o) is
 
 pub record ScalarGiven (v : Value) : Type 0 where
   pub which : Scalar

@@ -3,10 +3,11 @@ use mathlib.Core.Path.{◌≡◌, refl, sym, ap, ◌∙◌}
 use mathlib.Core.Bool.{Bool, true, false}
 use mathlib.Core.List.{[], ◌∷◌}
 use mathlib.Core.Logic.{◌⊎◌, ⊎_elim}
-use Prim.Native.Nat.{ℕ, ◌<◌}
+use Prim.Native.Nat.{ℕ}
 use native.Mathlib.Omega.{arith}
 use borrow.Author.Tests.{eqb-true, eqb-false, eq-eqb, ne_eqb}
 use denote.Enum.Declared.{tag_of}
+use borrow.Enum.Refused.{Among, opened, not_key}
 use lib.Dec.{eqb}
 use lib.ListN.{length}
 use Rattle.laws.specs.Basics.{choose}
@@ -34,11 +35,11 @@ differ e = absurd (omega arith)
 -- ---- how the code finds it
 
 -- pairs and vectors are the first two variants of the parts
-pub like_variant : (x : ℕ) → (x ≡ 0) ⊎ (x ≡ 1) → x ≡ 2 → ⊥
-like_variant x o is = ⊎_elim (λ e. omega arith) (λ e. omega arith) o
+pub like_variant : (x : ℕ) → Among (0 ∷ 1 ∷ []) x → x ≡ 2 → ⊥
+like_variant x o is = not_key (0 ∷ 1 ∷ []) 2 tt x (opened o) is
 
-pub pairs_first : (x : ℕ) → (x ≡ 1) ⊎ (x ≡ 2) → x ≡ 0 → ⊥
-pairs_first x o is = ⊎_elim (λ e. omega arith) (λ e. omega arith) o
+pub pairs_first : (x : ℕ) → Among (1 ∷ 2 ∷ []) x → x ≡ 0 → ⊥
+pairs_first x o is = not_key (1 ∷ 2 ∷ []) 0 tt x (opened o) is
 
 pub last_variant : (p : Parts) → tag_of the_type p ≡ 2 → p ≡ Unlike
 last_variant (Pairs a d b e) is = absurd (omega (arith, is))
@@ -60,20 +61,14 @@ third_walked walked.Ends is = absurd (omega (arith, is))
 third_walked walked.Differs is = refl
 
 -- the numbers of the variants of a cell that is no pair; no vector; neither
-pub no_pair : (x : ℕ) → ((x ≡ 0) ⊎ ((x ≡ 1) ⊎ ((x ≡ 2) ⊎ ((x ≡ 3) ⊎ ((x ≡ 4) ⊎ ((x ≡ 5) ⊎ ((x ≡ 6) ⊎ ((x ≡ 8) ⊎ ((x ≡ 9) ⊎ (x ≡ 10)))))))))) → x ≡ 7 → ⊥
-no_pair x o is =
-    let off : (k : ℕ) → (k ≡ 7 → ⊥) → x ≡ k → ⊥ = λ k ne e. ne (sym e ∙ is) in
-    ⊎_elim (off 0 (λ z. omega arith)) (⊎_elim (off 1 (λ z. omega arith)) (⊎_elim (off 2 (λ z. omega arith)) (⊎_elim (off 3 (λ z. omega arith)) (⊎_elim (off 4 (λ z. omega arith)) (⊎_elim (off 5 (λ z. omega arith)) (⊎_elim (off 6 (λ z. omega arith)) (⊎_elim (off 8 (λ z. omega arith)) (⊎_elim (off 9 (λ z. omega arith)) (off 10 (λ z. omega arith)))))))))) o
+pub no_pair : (x : ℕ) → Among (0 ∷ 1 ∷ 2 ∷ 3 ∷ 4 ∷ 5 ∷ 6 ∷ 8 ∷ 9 ∷ 10 ∷ []) x → x ≡ 7 → ⊥
+no_pair x o is = not_key (0 ∷ 1 ∷ 2 ∷ 3 ∷ 4 ∷ 5 ∷ 6 ∷ 8 ∷ 9 ∷ 10 ∷ []) 7 tt x (opened o) is
 
-pub no_vector : (x : ℕ) → ((x ≡ 0) ⊎ ((x ≡ 1) ⊎ ((x ≡ 2) ⊎ ((x ≡ 3) ⊎ ((x ≡ 4) ⊎ ((x ≡ 5) ⊎ ((x ≡ 6) ⊎ ((x ≡ 7) ⊎ ((x ≡ 8) ⊎ (x ≡ 9)))))))))) → x ≡ 10 → ⊥
-no_vector x o is =
-    let off : (k : ℕ) → (k ≡ 10 → ⊥) → x ≡ k → ⊥ = λ k ne e. ne (sym e ∙ is) in
-    ⊎_elim (off 0 (λ z. omega arith)) (⊎_elim (off 1 (λ z. omega arith)) (⊎_elim (off 2 (λ z. omega arith)) (⊎_elim (off 3 (λ z. omega arith)) (⊎_elim (off 4 (λ z. omega arith)) (⊎_elim (off 5 (λ z. omega arith)) (⊎_elim (off 6 (λ z. omega arith)) (⊎_elim (off 7 (λ z. omega arith)) (⊎_elim (off 8 (λ z. omega arith)) (off 9 (λ z. omega arith)))))))))) o
+pub no_vector : (x : ℕ) → Among (0 ∷ 1 ∷ 2 ∷ 3 ∷ 4 ∷ 5 ∷ 6 ∷ 7 ∷ 8 ∷ 9 ∷ []) x → x ≡ 10 → ⊥
+no_vector x o is = not_key (0 ∷ 1 ∷ 2 ∷ 3 ∷ 4 ∷ 5 ∷ 6 ∷ 7 ∷ 8 ∷ 9 ∷ []) 10 tt x (opened o) is
 
-pub neither_two : (x : ℕ) → ((x ≡ 0) ⊎ ((x ≡ 1) ⊎ ((x ≡ 2) ⊎ ((x ≡ 3) ⊎ ((x ≡ 4) ⊎ ((x ≡ 5) ⊎ ((x ≡ 6) ⊎ ((x ≡ 8) ⊎ (x ≡ 9))))))))) → (x ≡ 7) ⊎ (x ≡ 10) → ⊥
-neither_two x o is =
-    let off : (k : ℕ) → k < 10 → (k ≡ 7 → ⊥) → x ≡ k → ⊥ = λ k low ne e. ⊎_elim (λ p. ne (sym e ∙ p)) (λ p. omega arith) is in
-    ⊎_elim (off 0 (omega arith) (λ z. omega arith)) (⊎_elim (off 1 (omega arith) (λ z. omega arith)) (⊎_elim (off 2 (omega arith) (λ z. omega arith)) (⊎_elim (off 3 (omega arith) (λ z. omega arith)) (⊎_elim (off 4 (omega arith) (λ z. omega arith)) (⊎_elim (off 5 (omega arith) (λ z. omega arith)) (⊎_elim (off 6 (omega arith) (λ z. omega arith)) (⊎_elim (off 8 (omega arith) (λ z. omega arith)) (off 9 (omega arith) (λ z. omega arith))))))))) o
+pub neither_two : (x : ℕ) → Among (0 ∷ 1 ∷ 2 ∷ 3 ∷ 4 ∷ 5 ∷ 6 ∷ 8 ∷ 9 ∷ []) x → (x ≡ 7) ⊎ (x ≡ 10) → ⊥
+neither_two x o is = ⊎_elim (not_key (0 ∷ 1 ∷ 2 ∷ 3 ∷ 4 ∷ 5 ∷ 6 ∷ 8 ∷ 9 ∷ []) 7 tt x (opened o)) (not_key (0 ∷ 1 ∷ 2 ∷ 3 ∷ 4 ∷ 5 ∷ 6 ∷ 8 ∷ 9 ∷ []) 10 tt x (opened o)) is
 
 module _ (x y : VCell) (c d : Cell) (p : cell_of x ≡ c) (q : cell_of y ≡ d) where
   pub told : parted (cell_of x) (cell_of y) ≡ parted c d

@@ -5,6 +5,8 @@
 // class are compared again: the time goes with the slots and elements met, however the data share. What has been found of two
 // slots by `equal` says nothing of the walk from them, so the walk has classes of its own. The scratch of c slots: c words of
 // classes, c words of the walk's classes, then the pairs of slots whose parts are still to be compared.
+#![tactic(auto)]
+
 ghost use Rattle.std.specs.Prelude.{◌≡◌, [], ◌∷◌, ◌+◌, ◌*◌, ◌≤◌, ◌<◌, length};
 ghost use Rattle.rules.specs.Cells.{slot};
 ghost use Rattle.rules.specs.Layout.{heap_of};
@@ -20,7 +22,7 @@ use leaf_cells::{VCell, Value};
 
 // The parts by which two cells are compared: car, cdr, car and cdr of two pairs; the elements' places and number of two vectors
 // of one length; or none.
-#[derive(Drop)]
+#[derive(Clone, Copy)]
 enum Parts {
     Pairs(usize, usize, usize, usize),
     Vectors(usize, usize, usize),
@@ -28,14 +30,14 @@ enum Parts {
 }
 
 // The height of the stack of pairs to compare, or that two values differ.
-#[derive(Drop)]
+#[derive(Clone, Copy)]
 enum Next {
     Height(usize),
     Differs,
 }
 
 // The pair walk goes on from two slots, with the stack's height; or it has come to its end; or it has failed.
-#[derive(Drop)]
+#[derive(Clone, Copy)]
 enum Walked {
     On(usize, usize, usize),
     Ends,

@@ -1,6 +1,8 @@
 // `eqv` of two values (compare.rs). Document 01, "Equality": "true for the same slot; otherwise compare cells: Bool, Number, Char
 // by value; Nil with Nil, Eof with Eof; pairs when both fields name the same slots; strings by content; all else false, Void with
 // Void too." Cells are compared by their kind and words.
+#![tactic(auto)]
+
 ghost use Rattle.std.specs.Prelude.{◌≡◌, ℕ, ◌+◌, ◌*◌, ◌≤◌, length};
 ghost use Rattle.laws.specs.Basics.{same};
 ghost use Rattle.rules.specs.Cells.{block, slot};

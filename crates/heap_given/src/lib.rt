@@ -2,6 +2,8 @@
 // store: a scalar or a pair of used slots", "Element store: a scalar or a used slot. Any other kind given is 11." Fields that the
 // kind has not are not looked at. Then whether the slots that a given value or cell names are in use: "14 | a slot given is past
 // the capacity or Free"; and whether the scratch that is lent is long enough.
+#![tactic(auto)]
+
 ghost use Rattle.std.specs.Prelude.{◌≡◌, true, ltb, get_or};
 ghost use Rattle.rules.specs.Numbers.{scratch_words};
 ghost use Rattle.rules.specs.Sound.{sound};
@@ -16,7 +18,7 @@ use leaf_cells::{VCell, Value};
 use leaf_nodes::Fault;
 
 // A given scalar is one, or 11 and what is wrong with it.
-#[derive(Drop)]
+#[derive(Clone, Copy)]
 pub enum ScalarAnswer {
     Good,
     Malformed(Fault),
@@ -45,7 +47,7 @@ pub fn given_scalar(kind: u64, a: u64) -> ScalarAnswer
 }
 
 // A given value, or 11.
-#[derive(Drop)]
+#[derive(Clone, Copy)]
 pub enum ValueAnswer {
     Given(Value),
     Malformed(Fault),
@@ -66,7 +68,7 @@ pub fn given_value(kind: u64, a: u64) -> ValueAnswer
 }
 
 // A given cell, or 11.
-#[derive(Drop)]
+#[derive(Clone, Copy)]
 pub enum CellAnswer {
     Given(VCell),
     Malformed(Fault),

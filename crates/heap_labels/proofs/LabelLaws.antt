@@ -1,15 +1,14 @@
 -- Labels by their places in the words. Assumes nothing.
-use mathlib.Core.Path.{◌≡◌, refl, sym, ap, ◌∙◌, subst}
+use mathlib.Core.Path.{◌≡◌, refl, sym, ap, ◌∙◌}
 use mathlib.Core.Bool.{Bool, true, false}
-use mathlib.Core.List.{List, [], ◌∷◌, ◌++◌, map}
+use mathlib.Core.List.{List, [], ◌∷◌, ◌++◌}
 use mathlib.Core.Option.{Option, none, some}
 use Prim.Native.Nat.{ℕ, zero, suc, ◌+◌, ◌*◌, ◌≤◌, ◌<◌}
 use native.Mathlib.Omega.{arith}
-use native.Mathlib.Decide.{dec_lt}
 use borrow.Author.Tests.{eq-eqb, ne_eqb}
 use lib.Dec.{eqb}
 use lib.ListN.{length, get_or, set, length-set, length-map}
-use lib.Seq.{ext_get_or, get_or-set_same, get_or-set_other, set_out}
+use lib.Seq.{ext_get_or, get_or-set_same, get_or-set_other}
 use Rattle.laws.specs.Basics.{choose, find, rising, basics}
 use Rattle.laws.proofs.Lists.{length-rising, get_or_map_rising}
 use Rattle.rules.specs.Put.{Label, with_label, slot_of, put_rules}

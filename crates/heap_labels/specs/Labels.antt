@@ -1,6 +1,6 @@
 -- The labels of a put, in the scratch: two words a label, its number and the slot of its latest definition. The words past
 -- the labels in use may hold anything. Assumes nothing.
-use Rattle.std.specs.Prelude.{◌≡◌, List, [], ◌∷◌, map, ℕ, zero, suc, ◌+◌, ◌*◌, eqb, length, get_or}
+use Rattle.std.specs.Prelude.{◌≡◌, List, [], ◌∷◌, map, ℕ, suc, ◌+◌, ◌*◌, eqb, length, get_or}
 use Rattle.laws.specs.Basics.{choose, rising, basics}
 use Rattle.rules.specs.Put.{Label, with_label}
 

@@ -1,5 +1,7 @@
 // The labels of one put, kept in the scratch (heap.rs, put_cell_with_labels: the map of labels). Document 01: "Within one
 // put the latest definition of a label counts, also after its inner datum has ended."
+#![tactic(auto)]
+
 ghost use Rattle.std.specs.Prelude.{◌≡◌, ◌+◌, ◌*◌, ◌≤◌, length};
 ghost use Rattle.rules.specs.Put.{slot_of};
 ghost use Rattle.heap_labels.specs.Labels.{labels_in, index_of, Defined};

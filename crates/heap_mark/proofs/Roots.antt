@@ -1,7 +1,7 @@
 -- Roots in use, one after the other. Assumes nothing.
-use mathlib.Core.Path.{◌≡◌, refl, sym, ap, ◌∙◌}
+use mathlib.Core.Path.{◌≡◌, sym, ap, ◌∙◌}
 use mathlib.Core.Bool.{Bool, true, false}
-use mathlib.Core.List.{List, [], ◌∷◌}
+use mathlib.Core.List.{List, []}
 use Prim.Native.Nat.{ℕ, ◌+◌, ◌/◌, ◌%◌, ◌≤◌, ◌<◌}
 use native.Mathlib.Numerals.{add-one}
 use native.Mathlib.Omega.{arith}
@@ -12,7 +12,7 @@ use lib.ListN.{length, get_or, drop, take, drop_of_length-le}
 use lib.Seq.{drop-cons, get_or-take}
 use Rattle.laws.specs.Basics.{both, every, basics}
 use Rattle.rules.specs.Map.{state_in, is_allocated, Allocated, map_rules}
-use Rattle.rules.specs.Heap.{Heap, capacity, in_use}
+use Rattle.rules.specs.Heap.{in_use}
 use Rattle.rules.specs.Layout.{heap_of, layout_rules}
 use Rattle.heap_sound_rows.specs.Rows.{lists}
 use Rattle.heap_sound_rows.proofs.HeapFacts.{cells_length}

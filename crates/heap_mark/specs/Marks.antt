@@ -5,8 +5,8 @@ use Rattle.std.specs.Prelude.{◌≡◌, Bool, true, false, List, [], ◌∷◌,
 use Rattle.laws.specs.Basics.{choose, both, every, rising, basics}
 use Rattle.rules.specs.Map.{Used, state_of, set_state, is_allocated, set_low_bits}
 use Rattle.rules.specs.Cells.{Value, Block, vector}
-use Rattle.rules.specs.Heap.{Heap, capacity, cell_at}
-use Rattle.rules.specs.Collect.{slots_among, leads_to, marked}
+use Rattle.rules.specs.Heap.{Heap, cell_at}
+use Rattle.rules.specs.Collect.{leads_to, marked}
 use Rattle.rules.specs.Layout.{heap_of}
 use Rattle.leaf_cells.specs.Elements.{loaded_element}
 use Rattle.heap_sound_rows.specs.Rows.{lists}

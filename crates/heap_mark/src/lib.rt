@@ -1,6 +1,8 @@
 // Roots and marking (gc.rs, heap.rs: mark). Document 01, "Slots and growth": "Reach: a pair leads to car and cdr, a vector to
 // each element that is a slot. A collection refuses by 14 a root that is not in use." What is met is marked at once, and waits
 // in the scratch until what it leads to is marked too: a stack, and no recursion. Each slot is pushed once.
+#![tactic(auto)]
+
 ghost use Rattle.std.specs.Prelude.{◌≡◌, [], ◌∷◌, ◌+◌, ◌*◌, ◌/◌, ◌%◌, ◌<◌, ◌≤◌, length, get_or};
 ghost use Rattle.laws.specs.Basics.{every};
 ghost use Rattle.rules.specs.Heap.{in_use};

@@ -1,6 +1,6 @@
 -- The needs of a datum in one pass over its nodes: a stack says of each datum still awaited whether a scalar wants a slot
 -- there, and rows of three words say where the names met stand in the lent datum. Assumes nothing.
-use Rattle.std.specs.Prelude.{◌≡◌, Bool, true, false, List, [], ◌∷◌, ◌++◌, ℕ, zero, suc, ◌+◌, ◌-◌, ◌*◌, ◌≤◌, ◌<◌, eqb, length, get_or, take, drop, replicate}
+use Rattle.std.specs.Prelude.{◌≡◌, Bool, true, false, List, [], ◌∷◌, ◌++◌, ℕ, zero, suc, ◌+◌, ◌*◌, ◌≤◌, ◌<◌, eqb, length, get_or, take, drop, replicate}
 use Rattle.std.proofs.Math.Option.{none, some}
 use Rattle.laws.specs.Basics.{every, join}
 use Rattle.rules.specs.Nodes.{Atom, Node, write_node, node_fits}

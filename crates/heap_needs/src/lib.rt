@@ -2,6 +2,8 @@
 // symbol table before the heap is touched. Document 01, "What a caller is told": 16, "the slots needed exceed the free ones
 // plus all growth that fits", and 17, "an arena has less room than needed". One loop over the nodes, with a stack of the
 // data that are still awaited and the names met so far.
+#![tactic(auto)]
+
 ghost use Rattle.std.specs.Prelude.{◌≡◌, ◌+◌, ◌-◌, ◌^◌, ◌≤◌, ◌<◌, length, take, drop, true, []};
 ghost use Rattle.leaf_nodes.specs.Reads.{text_length};
 ghost use Rattle.rules.specs.Datum.{Datum, encode, datum_fits};
@@ -21,7 +23,7 @@ const BYTES_USED: usize = 4;
 const ELEMENTS_USED: usize = 5;
 
 // What a put will take.
-#[derive(Drop)]
+#[derive(Clone, Copy)]
 pub struct Needed {
     pub slots: usize,
     pub bytes: usize,
@@ -29,7 +31,7 @@ pub struct Needed {
 }
 
 // What the nodes so far take, how many names they make, the next node's place, and how many data are awaited.
-#[derive(Drop)]
+#[derive(Clone, Copy)]
 struct Tally {
     slots: usize,
     bytes: usize,
@@ -255,7 +257,7 @@ pub fn needs(words: &[u64], bytes: &[u8], datum: &[u8]) -> Needed
 }
 
 // What of it is not there: the slots (16), or else the room of an arena (17).
-#[derive(Drop)]
+#[derive(Clone, Copy)]
 pub enum Lack {
     Nothing,
     Slots,

@@ -1,12 +1,10 @@
 -- The block of a cell by value, and the cell with another place. Assumes nothing.
 use mathlib.Core.Path.{◌≡◌, refl}
-use Prim.Native.Nat.{ℕ}
-use Rattle.rules.specs.Cells.{Block, block, Cell, plain, undefined, nil, eof, void, bool, char, number, pair, symbol, string, vector}
+use Rattle.rules.specs.Cells.{Block, block}
 use Rattle.rules.specs.Sound.{text_block, vector_block}
 use Rattle.leaf_cells.specs.Cells.{cell_of}
 use Rattle.leaf_cells.specs.declared.VCell.{VCell}
 use Rattle.leaf_cells.specs.declared.VCell.TheVariants.{Undefined, Nil, Eof, Void, Bool, Char, Number, Pair, Symbol, String, Vector}
-use Rattle.heap_pack.specs.Moves.{placed}
 
 abbrev pub text_span : VCell → Block
 text_span Undefined = block 0 0

@@ -1,13 +1,12 @@
 -- A block written at the start of a list's tail. Assumes nothing.
 use mathlib.Core.Path.{◌≡◌, refl, sym, ap, ◌∙◌}
-use mathlib.Core.Bool.{Bool, true, false}
-use mathlib.Core.List.{List, [], ◌∷◌, ◌++◌, append-nil, append_assoc}
+use mathlib.Core.Bool.{Bool}
+use mathlib.Core.List.{List, [], ◌∷◌, ◌++◌, append-nil}
 use Prim.Native.Nat.{ℕ, zero, suc, ◌+◌, ◌-◌, ◌*◌, ◌≤◌, ◌<◌}
 use native.Mathlib.Omega.{arith}
 use native.Mathlib.Nat.{zero-add}
 use borrow.Author.Tests.{eq-eqb, ne_eqb}
-use borrow.Rule.Slice.PartMut.{put_mid, mid_of, post_of}
-use lib.Dec.{eqb}
+use borrow.Rule.Slice.PartMut.{put_mid, mid_of}
 use lib.ListN.{length, get_or, take, drop, set, length-drop}
 use lib.Seq.{sets-eq, drop-drop, take_all}
 use Rattle.laws.specs.Basics.{choose}
@@ -15,7 +14,6 @@ use Rattle.laws.proofs.Pointwise.{length_part}
 use Rattle.rules.specs.Cells.{block}
 use Rattle.rules.specs.Heap.{part_of}
 use Rattle.leaf_rooms.specs.Rooms.{stored}
-use Rattle.heap_pack.specs.declared.Gone.{Gone}
 use Rattle.heap_pack.specs.Moves.{new_or, TextMoved, ElementsMoved}
 
 drop_all : {A : Type 0} (n : ℕ) (l : List A) → length l ≤ n → drop n l ≡ []

@@ -2,6 +2,8 @@
 // lowest such slot; sharing stays. Room past the part in use is zero." The arena is copied aside; then slot by slot a block
 // that was not moved yet is written to the start of the arena's tail, which is lent on, and the rest is cleared. A block is
 // known again by the place where it began, so each costs one look.
+#![tactic(auto)]
+
 ghost use Rattle.std.specs.Prelude.{◌≡◌, List, ℕ, ◌+◌, ◌*◌, ◌/◌, ◌≤◌, ◌<◌, length, get_or};
 ghost use Rattle.rules.specs.Cells.{block};
 ghost use Rattle.rules.specs.Heap.{Heap};
@@ -15,14 +17,14 @@ ghost use Rattle.heap_pack.specs.Passes.{TextsBegin, TextsEnd, TextsLent, TextsP
 use leaf_cells::VCell;
 
 // A block: its place and its length.
-#[derive(Drop)]
+#[derive(Clone, Copy)]
 pub struct Span {
     pub place: usize,
     pub size: usize,
 }
 
 // Where a block went, and how much of the room is in use then.
-#[derive(Drop)]
+#[derive(Clone, Copy)]
 pub struct Gone {
     pub to: usize,
     pub at: usize,

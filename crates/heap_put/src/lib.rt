@@ -5,6 +5,8 @@
 //
 // The put of a datum calls those of a pair, a vector and a label, which call it back; what is left of the datum falls. It
 // is done only where all of it is known to fit, so nothing here refuses.
+#![tactic(auto)]
+
 ghost use Rattle.std.specs.Prelude.{◌≡◌, List, ℕ};
 ghost use Rattle.rules.specs.Datum.{Datum, Data, pair, vector, def, how_many};
 ghost use Rattle.rules.specs.Layout.{Rooms};
@@ -15,7 +17,7 @@ use heap_atoms::{Put, Shape};
 use leaf_cells::{VCell, Value};
 
 // A datum that was put where a slot was wanted.
-#[derive(Drop)]
+#[derive(Clone, Copy)]
 pub struct Slotted {
     pub slot: usize,
     pub size: usize,
@@ -23,14 +25,14 @@ pub struct Slotted {
 }
 
 // How far the elements of a vector have come: bytes of the datum taken, and labels.
-#[derive(Drop)]
+#[derive(Clone, Copy)]
 pub struct Progress {
     pub size: usize,
     pub labels: usize,
 }
 
 // Puts the datum at the start of what is lent.
-#[cycle(put_datum_put_element_put_elements_put_in_slot_put_label_put_pair_put_vector)]
+#[cycle(putting)]
 pub fn put_datum(
     words: &mut [u64],
     map: &mut [u8],
@@ -53,7 +55,7 @@ pub fn put_datum(
 }
 
 // Puts the datum at the start of what is lent, in a slot.
-#[cycle(put_datum_put_element_put_elements_put_in_slot_put_label_put_pair_put_vector)]
+#[cycle(putting)]
 pub fn put_in_slot(
     words: &mut [u64],
     map: &mut [u8],
@@ -77,7 +79,7 @@ pub fn put_in_slot(
 }
 
 // "a pair puts car, then cdr, then itself": what is left of the datum after the car is handed on as a part to the cdr's.
-#[cycle(put_datum_put_element_put_elements_put_in_slot_put_label_put_pair_put_vector)]
+#[cycle(putting)]
 fn put_pair(
     words: &mut [u64],
     map: &mut [u8],
@@ -102,7 +104,7 @@ fn put_pair(
 }
 
 // The block first, the elements in order, then the vector's slot.
-#[cycle(put_datum_put_element_put_elements_put_in_slot_put_label_put_pair_put_vector)]
+#[cycle(putting)]
 fn put_vector(
     words: &mut [u64],
     map: &mut [u8],
@@ -137,7 +139,7 @@ fn put_vector(
 }
 
 // Puts n data as the elements from a place on.
-#[cycle(put_datum_put_element_put_elements_put_in_slot_put_label_put_pair_put_vector)]
+#[cycle(putting)]
 fn put_elements(
     words: &mut [u64],
     map: &mut [u8],
@@ -177,7 +179,7 @@ fn put_elements(
 }
 
 // Puts a datum as the element at a place.
-#[cycle(put_datum_put_element_put_elements_put_in_slot_put_label_put_pair_put_vector)]
+#[cycle(putting)]
 fn put_element(
     words: &mut [u64],
     map: &mut [u8],
@@ -201,7 +203,7 @@ fn put_element(
 }
 
 // A slot first, then the inner datum, whose cell is copied into that slot as it stands then.
-#[cycle(put_datum_put_element_put_elements_put_in_slot_put_label_put_pair_put_vector)]
+#[cycle(putting)]
 fn put_label(
     words: &mut [u64],
     map: &mut [u8],

@@ -1,6 +1,6 @@
 -- What a put behind the door's tests answers and leaves. Document 01, "What a caller is told", rows 11 to 17. Assumes
 -- nothing.
-use Rattle.std.specs.Prelude.{◌≡◌, true, false, List, ℕ, ◌≤◌, length}
+use Rattle.std.specs.Prelude.{◌≡◌, true, List, ℕ, ◌≤◌, length}
 use Rattle.rules.specs.Numbers.{scratch_words}
 use Rattle.rules.specs.Refusals.{Answer, accepted, refused, malformed, over_limit, early_label, no_slots, no_room}
 use Rattle.rules.specs.Datum.{good, bad, parse}

@@ -1,6 +1,8 @@
 // A put whole, behind the door's tests: the check of the datum (11, 12, 13), what it needs against what is there (16, 17),
 // the put itself, and the scratch cleared. Document 01: "Where several apply the first in table order is given. A refusal
 // answers its number only, and leaves heap and output as they stood." "On return scratch is all zero".
+#![tactic(auto)]
+
 ghost use Rattle.std.specs.Prelude.{◌≡◌};
 ghost use Rattle.rules.specs.Calls.{left};
 ghost use Rattle.heap_sound_rows.specs.Rows.{lists};
@@ -8,7 +10,7 @@ ghost use Rattle.heap_check.proofs.Answers.{Accepted};
 ghost use Rattle.heap_put_whole.specs.Whole.{answer_of, put_behind, Ready, Outcome};
 
 // What a put answers: the datum's slot, or the refusal.
-#[derive(Drop)]
+#[derive(Clone, Copy)]
 pub enum Answer {
     Slot(usize),
     Malformed(leaf_nodes::Fault, usize),

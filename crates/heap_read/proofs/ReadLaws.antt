@@ -13,7 +13,7 @@ use lib.Seq.{sets-eq}
 use Rattle.laws.specs.Basics.{choose, member, zeros, basics}
 use Rattle.laws.proofs.Lists.{get_or_zeros, length-zeros, no_elements}
 use Rattle.rules.specs.Numbers.{most_nodes, most_labels, scratch_words}
-use Rattle.rules.specs.Refusals.{Answer, accepted, refused, Refusal, over_limit, no_such_slot, short_output, unless, ◌⇒◌, refusals}
+use Rattle.rules.specs.Refusals.{accepted, refused, Refusal, over_limit, no_such_slot, short_output, unless, ◌⇒◌, refusals}
 use Rattle.rules.specs.Cells.{Value, slot, scalar}
 use Rattle.rules.specs.Datum.{Datum, encode}
 use Rattle.rules.specs.Heap.{Heap, capacity}

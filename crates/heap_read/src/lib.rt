@@ -2,6 +2,8 @@
 // the output, which finds 12 and 18 before a byte is written, and once more over the output; then the scratch cleared. Document
 // 01, "Reading back"; "A refusal answers its number only, and leaves heap and output as they stood." "Output past an answer
 // stays."
+#![tactic(auto)]
+
 ghost use Rattle.std.specs.Prelude.{◌≡◌, ℕ, ◌*◌, ◌/◌, length, get_or, List};
 ghost use Rattle.rules.specs.Heap.{Heap};
 ghost use Rattle.rules.specs.Layout.{Rooms};
@@ -13,7 +15,7 @@ use leaf_cells::Value;
 use leaf_write::Page;
 
 // What a read answers: the length written, or the refusal.
-#[derive(Drop)]
+#[derive(Clone, Copy)]
 pub enum Answer {
     Length(usize),
     OverLimit,

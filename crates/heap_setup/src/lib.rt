@@ -1,5 +1,7 @@
 // A fresh heap in lent lists, whatever they held. Document 01, "Slots and growth": "Fresh: the first slot given is 0, then 1";
 // and "spare room is zero". Whether the lists and the chunk allow it is asked before: `heap_sound_rows::numbers`.
+#![tactic(auto)]
+
 ghost use Rattle.std.specs.Prelude.{true, ◌≡◌};
 ghost use Rattle.rules.specs.Heap.{fresh};
 ghost use Rattle.rules.specs.Layout.{rooms_of, lent_of};

@@ -1,28 +1,24 @@
 -- The contents' clauses, as the functions answer them. Assumes nothing.
 use mathlib.Core.Path.{◌≡◌, refl, sym, ap, ◌∙◌, subst}
-use mathlib.Core.Bool.{Bool, true, false, not}
-use mathlib.Core.List.{List, [], ◌∷◌}
-use Prim.Native.Nat.{ℕ, zero, suc, ◌+◌, ◌-◌, ◌*◌, ◌/◌, ◌%◌, ◌≤◌, ◌<◌}
+use mathlib.Core.Bool.{true}
+use mathlib.Core.List.{List, []}
+use Prim.Native.Nat.{ℕ, ◌+◌, ◌≤◌, ◌<◌}
 use native.Mathlib.Decide.{dec_lt}
 use native.Mathlib.Omega.{arith}
-use borrow.Author.Tests.{eqb-true, eq-eqb, ne_eqb, leb-true, ltb-true, lt-ltb, not-true}
-use lib.Dec.{eqb, leb, ltb}
+use lib.Dec.{leb}
 use lib.ListN.{length, get_or, take, drop}
-use lib.Seq.{length-take-le}
-use Rattle.laws.specs.Basics.{both, either, every, every_below, same, basics}
-use Rattle.laws.proofs.Tests.{true≢false, both_left, both_right, both_true, below_all, all_below, same_equal, same_refl}
+use Rattle.laws.specs.Basics.{every, every_below, basics}
+use Rattle.laws.proofs.Tests.{both_left, both_right, both_true, below_all, all_below}
 use Rattle.laws.proofs.Pointwise.{every_all, all_every, get_d_part, length_part}
-use Rattle.laws.proofs.Checks.{refuted}
 use Rattle.rules.specs.Utf8.{utf8, utf8_rules}
-use Rattle.rules.specs.Cells.{Scalar, undefined, Value, slot, scalar, Block, block, Cell, plain, pair, symbol, string, vector, is_symbol}
-use Rattle.rules.specs.Heap.{Heap, Entry, capacity, cell_at, in_use, part_of, text_of, elements_of, name_at}
-use Rattle.rules.specs.Layout.{Lent, cell_from, value_from, entry_at, heap_of, layout_rules}
-use Rattle.rules.specs.Sound.{value_allowed, cell_allowed, cells_allowed, value_named, named_in_use, names_in_use, text_block, vector_block, blocks_sound, entry_sound, entries_differ, table_sound, sound_rules}
-use Rattle.heap_sound_rows.specs.Rows.{word}
-use Rattle.heap_sound_rows.proofs.HeapFacts.{cells_length, table_length, bytes_length, elements_length, cell_is, entry_is, element_at}
+use Rattle.rules.specs.Cells.{undefined, Value, slot, scalar, Block, Cell, plain, pair, symbol, string, vector}
+use Rattle.rules.specs.Heap.{Heap, cell_at, in_use, text_of, elements_of}
+use Rattle.rules.specs.Layout.{Lent, heap_of}
+use Rattle.rules.specs.Sound.{value_allowed, cell_allowed, cells_allowed, value_named, named_in_use, names_in_use, text_block, vector_block, blocks_sound, sound_rules}
+use Rattle.heap_sound_rows.proofs.HeapFacts.{cells_length, elements_length, cell_is, element_at}
 use Rattle.heap_sound_blocks.specs.Blocks.{shown, Apart}
 use Rattle.heap_sound_blocks.proofs.BlockLaws.{shown_text, shown_vector, apart_sound, sound_apart}
-use Rattle.heap_sound_cells.specs.Looked.{used_slot, plain_good, plain_at, value_at, named, text_good, vector_good, Looked}
+use Rattle.heap_sound_cells.specs.Looked.{used_slot, plain_good, plain_at, value_at, named, text_good, vector_good}
 use Rattle.heap_sound_cells.proofs.PlainLaws.{plain_is}
 use Rattle.heap_sound.proofs.OutlineLaws.{Ground, in_use_is}
 

@@ -1,20 +1,19 @@
 -- The outline's clauses, as the functions answer them. Assumes nothing.
-use mathlib.Core.Path.{◌≡◌, refl, sym, ap, ◌∙◌, subst}
+use mathlib.Core.Path.{◌≡◌, refl, sym, ap, ◌∙◌}
 use mathlib.Core.Bool.{Bool, true, false}
-use mathlib.Core.List.{List, []}
-use Prim.Native.Nat.{ℕ, ◌+◌, ◌-◌, ◌*◌, ◌/◌, ◌%◌, ◌≤◌, ◌<◌}
+use Prim.Native.Nat.{ℕ, ◌-◌, ◌*◌, ◌/◌, ◌%◌}
 use native.Mathlib.Omega.{arith}
 use borrow.Author.Tests.{ltb-true}
 use lib.Dec.{ltb}
 use lib.ListN.{length, get_or, take}
 use lib.Seq.{length-take-le, get_or-take}
 use Rattle.laws.specs.Basics.{both, either, every_below}
-use Rattle.rules.specs.Map.{state_in, state_of, is_allocated, Free, map_rules}
-use Rattle.rules.specs.Heap.{Heap, capacity, reaches, most_growths, in_use}
-use Rattle.rules.specs.Layout.{Lent, heap_of, layout_rules}
-use Rattle.rules.specs.Sound.{is_free, capacity_grown, states_settled, free_once, free_undefined, setup_numbers, counts_within, sound_rules}
+use Rattle.rules.specs.Map.{state_in, state_of, is_allocated, map_rules}
+use Rattle.rules.specs.Heap.{capacity, reaches, most_growths, in_use}
+use Rattle.rules.specs.Layout.{Lent, heap_of}
+use Rattle.rules.specs.Sound.{capacity_grown, states_settled, free_once, free_undefined, setup_numbers, counts_within, sound_rules}
 use Rattle.rules.proofs.SoundLaws.{grown_whole}
-use Rattle.heap_sound_rows.specs.Rows.{lists, settled}
+use Rattle.heap_sound_rows.specs.Rows.{settled}
 use Rattle.heap_sound_rows.proofs.NumberLaws.{Numbers, Counts, numbers_told, counts_told}
 use Rattle.heap_sound_rows.proofs.HeapFacts.{cells_length}
 use Rattle.heap_sound_free.specs.Marks.{free_sound}

@@ -1,20 +1,20 @@
 -- The symbol table's clause, entry by entry. Assumes nothing.
 use mathlib.Core.Path.{◌≡◌, refl, sym, ap, ◌∙◌, subst}
 use mathlib.Core.Bool.{Bool, true, false, not}
-use mathlib.Core.List.{List, [], ◌∷◌}
-use Prim.Native.Nat.{ℕ, zero, suc, ◌+◌, ◌-◌, ◌*◌, ◌≤◌, ◌<◌}
+use mathlib.Core.List.{List, []}
+use Prim.Native.Nat.{ℕ, zero, suc, ◌+◌, ◌-◌, ◌*◌, ◌<◌}
 use native.Mathlib.Omega.{arith}
-use borrow.Author.Tests.{eqb-true, eq-eqb, ne_eqb, lt-ltb, not-true}
+use borrow.Author.Tests.{eqb-true, eq-eqb, ne_eqb, not-true}
 use lib.Dec.{eqb, ltb}
 use lib.ListN.{length, get_or}
-use Rattle.laws.specs.Basics.{both, every, every_below, same}
+use Rattle.laws.specs.Basics.{both, every, same}
 use Rattle.laws.proofs.Tests.{true≢false, both_left, both_right, both_true, below_all, all_below, same_equal, same_refl}
 use Rattle.laws.proofs.Pointwise.{every_all, all_every}
 use Rattle.laws.proofs.Checks.{refuted}
-use Rattle.rules.specs.Cells.{Cell, Block, block, symbol, is_symbol}
+use Rattle.rules.specs.Cells.{Cell, block, symbol, is_symbol}
 use Rattle.rules.specs.Heap.{Heap, Entry, cell_at, in_use, text_of, name_at}
 use Rattle.rules.specs.Layout.{Lent, cell_from, entry_at, heap_of, layout_rules}
-use Rattle.rules.specs.Sound.{entry_sound, entries_differ, table_sound, sound_rules}
+use Rattle.rules.specs.Sound.{entry_sound, entries_differ, table_sound}
 use Rattle.heap_sound_rows.specs.Rows.{word}
 use Rattle.heap_sound_rows.proofs.HeapFacts.{table_length, cell_is, entry_is}
 use Rattle.heap_sound_cells.specs.Looked.{used_slot}

@@ -1,17 +1,16 @@
 -- The contents, and the whole, as the functions answer them. Assumes nothing.
-use mathlib.Core.Path.{◌≡◌, refl, sym, ap, ◌∙◌, subst}
+use mathlib.Core.Path.{◌≡◌, refl, sym, ◌∙◌, subst}
 use mathlib.Core.Bool.{Bool, true, false}
 use mathlib.Core.List.{List}
-use Prim.Native.Nat.{ℕ, ◌*◌, ◌≤◌, ◌<◌}
+use Prim.Native.Nat.{ℕ}
 use lib.ListN.{length, get_or, take}
 use Rattle.laws.specs.Basics.{every_below}
 use Rattle.laws.proofs.Tests.{true≢false}
 use Rattle.laws.proofs.Checks.{refuted}
-use Rattle.rules.specs.Cells.{Block}
 use Rattle.rules.specs.Layout.{Lent, header, heap_of}
 use Rattle.rules.specs.Sound.{Sound, sound, value_allowed}
 use Rattle.rules.proofs.SoundLaws.{clauses, together}
-use Rattle.heap_sound_blocks.specs.Blocks.{shown, Apart}
+use Rattle.heap_sound_blocks.specs.Blocks.{shown}
 use Rattle.heap_sound_cells.specs.Looked.{plain_at, value_at, text_good, vector_good, Looked}
 use Rattle.heap_sound_table.specs.Entries.{Decided, TableGood}
 use Rattle.heap_sound.specs.Parts.{Outline, Contents}

@@ -1,6 +1,6 @@
 -- The clauses of soundness in two parts: the outline, which is looked at word by word, and the contents, which are looked at
 -- where the outline holds. Assumes nothing.
-use Rattle.std.specs.Prelude.{true, ◌≡◌, ℕ, length, get_or}
+use Rattle.std.specs.Prelude.{true, ◌≡◌, length, get_or}
 use Rattle.rules.specs.Layout.{Lent, heap_of}
 use Rattle.rules.specs.Sound.{setup_numbers, counts_within, cells_allowed, capacity_grown, states_settled, free_once, free_undefined, names_in_use, blocks_sound, text_block, vector_block, table_sound, written_out}
 

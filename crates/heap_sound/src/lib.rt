@@ -1,5 +1,7 @@
 // Soundness of any lent state. Document 01, "A heap is sound when": true exactly when the rules' soundness holds. Any lengths and
 // any contents are taken, nothing is changed, and no scratch is used.
+#![tactic(auto)]
+
 ghost use Rattle.std.specs.Prelude.{◌≡◌, length, get_or};
 ghost use Rattle.rules.specs.Sound.{sound};
 ghost use Rattle.heap_sound_rows.specs.Rows.{lists};
@@ -58,7 +60,7 @@ fn contents(words: &[u64], map: &[u8], bytes: &[u8], elems: &[u64]) -> bool
 
 // The lent state is sound.
 pub fn is_sound(words: &[u64], map: &[u8], bytes: &[u8], elems: &[u64]) -> bool
-    ensures { result ≡ sound (record { words = words.entry.now; map = map.now; bytes = bytes.now; elems = elems.now }) }
+    ensures { result ≡ sound (record { words = words.now; map = map.now; bytes = bytes.now; elems = elems.now }) }
 {
     if !outline(words, map, bytes, elems) {
         return false;

@@ -2,24 +2,23 @@
 -- holds of each block that is painted first holds of every block. Assumes nothing.
 use mathlib.Core.Path.{◌≡◌, refl, sym, ap, ◌∙◌, subst}
 use mathlib.Core.Bool.{Bool, true, false}
-use mathlib.Core.List.{List, [], ◌∷◌}
+use mathlib.Core.List.{List, []}
 use mathlib.Core.Logic.{⊎_elim}
-use Prim.Native.Nat.{ℕ, zero, suc, ◌+◌, ◌-◌, ◌*◌, ◌≤◌, ◌<◌}
+use Prim.Native.Nat.{ℕ, zero, suc, ◌+◌, ◌-◌, ◌<◌}
 use native.Mathlib.Decide.{dec_lt}
 use native.Mathlib.Omega.{arith}
-use borrow.Author.Tests.{eqb-true, eq-eqb, leb-true, le-leb, lt-leb}
+use borrow.Author.Tests.{eqb-true, eq-eqb, le-leb, lt-leb}
 use lib.Dec.{eqb, leb}
-use lib.ListN.{length, get_or}
-use Rattle.laws.specs.Basics.{choose, both, either, between, every, basics}
-use Rattle.laws.proofs.Tests.{true≢false, both_left, both_right, both_true, either_cases, either_left, either_right}
+use lib.ListN.{get_or}
+use Rattle.laws.specs.Basics.{choose, both, either, between, every}
+use Rattle.laws.proofs.Tests.{both_left, both_right, both_true, either_cases, either_left, either_right}
 use Rattle.laws.proofs.Pointwise.{every_all, all_every}
 use Rattle.rules.specs.Cells.{undefined, Block, block, Cell, plain}
 use Rattle.rules.specs.Heap.{Heap, capacity, cell_at}
 use Rattle.rules.specs.Layout.{Lent, cell_from, heap_of, layout_rules}
 use Rattle.rules.specs.Sound.{text_block, vector_block, lies_in, same_or_disjoint, blocks_sound, sound_rules}
-use Rattle.heap_sound_rows.specs.Rows.{word}
-use Rattle.heap_sound_rows.proofs.HeapFacts.{cells_length, cell_is}
-use Rattle.heap_sound_blocks.specs.Blocks.{shown, Inside, Apart, Owned, Shared, Painted}
+use Rattle.heap_sound_rows.proofs.HeapFacts.{cell_is}
+use Rattle.heap_sound_blocks.specs.Blocks.{shown, Inside, Apart, Painted}
 
 -- ---- kinds
 

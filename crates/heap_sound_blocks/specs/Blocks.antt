@@ -1,6 +1,6 @@
 -- Blocks painted over their arena with the slot that showed each first. Document 01: "blocks lie in the room in use and are
 -- either the same or disjoint". Assumes nothing.
-use Rattle.std.specs.Prelude.{Bool, true, false, List, ◌≡◌, ℕ, ◌+◌, ◌-◌, ◌*◌, ◌<◌, ◌≤◌, leb, get_or}
+use Rattle.std.specs.Prelude.{Bool, true, false, List, ◌≡◌, ℕ, ◌+◌, ◌-◌, ◌*◌, ◌<◌, ◌≤◌, get_or}
 use Rattle.laws.specs.Basics.{choose, between}
 use Rattle.rules.specs.Cells.{Block, block}
 use Rattle.rules.specs.Sound.{lies_in, same_or_disjoint}

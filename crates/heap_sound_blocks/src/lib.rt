@@ -4,13 +4,15 @@
 // is painted must be that one.
 //
 // Texts are the blocks of the kinds 7 and 8, strings and symbols; vectors are those of kind 10.
+#![tactic(auto)]
+
 ghost use Rattle.std.specs.Prelude.{◌≡◌, ℕ, ◌+◌, ◌*◌, ◌<◌, ◌≤◌, length, get_or};
 ghost use Rattle.rules.specs.Cells.{block};
 ghost use Rattle.rules.specs.Sound.{lies_in};
 ghost use Rattle.heap_sound_blocks.specs.Blocks.{shown, as_block, Covered, Painted, Turned, Laid};
 
 // A part of an arena.
-#[derive(Drop)]
+#[derive(Clone, Copy)]
 pub struct Part {
     pub place: u64,
     pub size: u64,

@@ -3,14 +3,13 @@ use mathlib.Core.Path.{◌≡◌, refl, sym, ap, ◌∙◌}
 use mathlib.Core.Bool.{Bool, true, false}
 use mathlib.Core.List.{List}
 use Prim.Native.Nat.{ℕ, zero, suc, ◌+◌, ◌-◌, ◌*◌, ◌≤◌, ◌<◌}
-use native.Mathlib.Omega.{arith}
-use borrow.Author.Tests.{eqb-true, eq-eqb, ne_eqb, lt-ltb, le-ltb}
+use borrow.Author.Tests.{ne_eqb, lt-ltb, le-ltb}
 use lib.Dec.{eqb, leb, ltb}
 use lib.ListN.{get_or}
 use Rattle.laws.specs.Basics.{choose, both}
 use Rattle.laws.proofs.Checks.{pass, fail}
-use Rattle.rules.specs.Map.{state_of, is_allocated, Allocated}
-use Rattle.rules.specs.Cells.{Value, slot, scalar, Cell}
+use Rattle.rules.specs.Map.{state_of, is_allocated}
+use Rattle.rules.specs.Cells.{slot, scalar}
 use Rattle.rules.specs.Utf8.{scalar_value}
 use Rattle.rules.specs.Layout.{cell_from, value_from, scalar_from, layout_rules}
 use Rattle.rules.specs.Sound.{scalar_allowed, value_allowed, sound_rules}

@@ -5,7 +5,7 @@ use Rattle.laws.specs.Basics.{both, either, every_below, basics}
 use Rattle.rules.specs.Numbers.{most_vector, most_string, most_name}
 use Rattle.rules.specs.Utf8.{utf8}
 use Rattle.rules.specs.Map.{is_allocated}
-use Rattle.rules.specs.Cells.{Scalar, Value, slot, scalar, Block, block, Cell, plain, pair, symbol, string, vector}
+use Rattle.rules.specs.Cells.{Value, slot, scalar, Block, Cell, plain, pair, symbol, string, vector}
 use Rattle.rules.specs.Heap.{part_of}
 use Rattle.rules.specs.Layout.{cell_from, value_from}
 use Rattle.rules.specs.Sound.{scalar_allowed}

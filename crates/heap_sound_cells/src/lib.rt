@@ -1,6 +1,8 @@
 // What cells and elements hold. Document 01, "A heap is sound when": "11's rules on kinds, Bool, Char and UTF-8 hold", "lengths
 // of vectors, strings and names too", and "every slot that an Allocated cell or its elements name is Allocated". Of a block that
 // several slots show the text or the elements are looked at once, at the slot that painted it.
+#![tactic(auto)]
+
 ghost use Rattle.std.specs.Prelude.{◌≡◌, not, ℕ, ◌+◌, ◌*◌, ◌<◌, ◌≤◌, eqb, length, get_or};
 ghost use Rattle.laws.specs.Basics.{either, every_below};
 ghost use Rattle.rules.specs.Layout.{cell_from, value_from};

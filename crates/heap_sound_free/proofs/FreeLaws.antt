@@ -1,27 +1,27 @@
 -- The two clauses on Free slots, by the marks. Assumes nothing.
 use mathlib.Core.Path.{◌≡◌, refl, sym, ap, ◌∙◌, subst}
 use mathlib.Core.Bool.{Bool, true, false, not}
-use mathlib.Core.List.{List, [], ◌∷◌, map, reverse}
+use mathlib.Core.List.{List, []}
 use mathlib.Core.Logic.{⊎_elim}
 use Prim.Native.Nat.{ℕ, zero, suc, ◌+◌, ◌-◌, ◌*◌, ◌/◌, ◌%◌, ◌≤◌, ◌<◌}
 use native.Mathlib.Omega.{arith}
 use borrow.Author.Tests.{eqb-true, eq-eqb, ne_eqb, ltb-true, lt-ltb}
 use lib.Dec.{eqb, ltb}
-use lib.ListN.{length, get_or, take}
+use lib.ListN.{get_or}
 use lib.Seq.{get_or-take}
-use Rattle.laws.specs.Basics.{choose, both, either, every, every_below, count, rising, basics}
-use Rattle.laws.proofs.Tests.{true≢false, both_left, both_right, both_true, either_cases, either_left, either_right, below_all, all_below}
-use Rattle.laws.proofs.Checks.{refuted, agreeing, pass, fail}
-use Rattle.rules.specs.Cells.{Cell, plain, undefined}
+use Rattle.laws.specs.Basics.{choose, both, either, every, every_below}
+use Rattle.laws.proofs.Tests.{true≢false, both_left, both_right, both_true, either_cases, either_right, below_all, all_below}
+use Rattle.laws.proofs.Checks.{refuted, agreeing}
+use Rattle.rules.specs.Cells.{plain, undefined}
 use Rattle.rules.specs.Map.{state_in, state_of, Free, map_rules}
 use Rattle.rules.specs.Heap.{Heap, capacity, cell_at}
-use Rattle.rules.specs.Layout.{Lent, cell_from, header, row, heap_of, layout_rules}
-use Rattle.rules.specs.Sound.{is_free, is_undefined, free_once, free_undefined, sound_rules}
+use Rattle.rules.specs.Layout.{cell_from, heap_of, layout_rules}
+use Rattle.rules.specs.Sound.{is_free, is_undefined, free_once, sound_rules}
 use Rattle.leaf_cells.specs.Cells.{loaded}
 use Rattle.heap_sound_rows.specs.Rows.{lists, word}
 use Rattle.heap_sound_rows.proofs.HeapFacts.{cells_length}
 use Rattle.heap_sound_free.specs.Marks.{tally, new_at, column_of, free_slot, free_sound}
-use Rattle.heap_sound_free.proofs.TallyLaws.{count_column, every_column, new_low, new_is, all_new}
+use Rattle.heap_sound_free.proofs.TallyLaws.{count_column, every_column, new_low, all_new}
 
 -- ---- a kind that is Undefined
 

@@ -1,9 +1,9 @@
 -- Slots met once: how often a number stands among the first n of a column, and the marks that say so. Document 01: "the free
 -- list holds each Free slot once". Assumes nothing.
-use Rattle.std.specs.Prelude.{Bool, true, List, [], ◌≡◌, ℕ, zero, suc, ◌+◌, ◌*◌, eqb, ltb, get_or}
-use Rattle.laws.specs.Basics.{choose, both, every_below, basics}
+use Rattle.std.specs.Prelude.{Bool, true, List, [], ◌≡◌, ℕ, zero, suc, ◌+◌, eqb, ltb, get_or}
+use Rattle.laws.specs.Basics.{choose, both, every_below}
 use Rattle.rules.specs.Map.{state_of, Free}
-use Rattle.rules.specs.Layout.{Lent, heap_of}
+use Rattle.rules.specs.Layout.{heap_of}
 use Rattle.rules.specs.Sound.{is_undefined, free_once, free_undefined}
 use Rattle.leaf_cells.specs.Cells.{loaded}
 use Rattle.heap_sound_rows.specs.Rows.{lists, word}

@@ -1,6 +1,8 @@
 // The free list and the Free slots of lent lists. Document 01, "A heap is sound when": "the free list holds each Free slot once
 // and Free slots hold Undefined". A column's slots are marked one by one, so that each is met once; then the marks are compared
 // with the map. The symbol table's slots are met once in the same way: "no two to the same slot".
+#![tactic(auto)]
+
 ghost use Rattle.std.specs.Prelude.{◌≡◌, ℕ, ◌+◌, ◌*◌, ◌/◌, ◌%◌, ◌<◌, ◌≤◌, eqb, ltb, length, get_or};
 ghost use Rattle.laws.specs.Basics.{either, every_below};
 ghost use Rattle.heap_sound_free.specs.Marks.{Marked, free_slot, free_sound};

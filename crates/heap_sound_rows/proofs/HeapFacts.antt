@@ -1,15 +1,15 @@
 -- The parts of the heap that lent lists hold, by the lists' words. Assumes nothing.
-use mathlib.Core.Path.{◌≡◌, refl, sym, ap, ◌∙◌}
-use mathlib.Core.List.{List, [], ◌∷◌, map, reverse, reverse-reverse}
+use mathlib.Core.Path.{◌≡◌, ap, ◌∙◌}
+use mathlib.Core.List.{List, map, reverse, reverse-reverse}
 use Prim.Native.Nat.{ℕ, ◌+◌, ◌-◌, ◌*◌, ◌/◌, ◌≤◌, ◌<◌}
 use native.Mathlib.Nat.{zero-add, add-zero}
 use native.Mathlib.Omega.{arith}
-use lib.ListN.{length, get_or, take, length-map, length-reverse, get_or-eq_default}
+use lib.ListN.{length, get_or, length-map, length-reverse, get_or-eq_default}
 use lib.Seq.{length-take-le}
-use Rattle.laws.specs.Basics.{rising, basics}
+use Rattle.laws.specs.Basics.{rising}
 use Rattle.laws.proofs.Lists.{length-rising, get_or_map_rising}
-use Rattle.rules.specs.Cells.{undefined, Value, scalar, Cell, plain}
-use Rattle.rules.specs.Heap.{Heap, Entry, capacity, cell_at}
+use Rattle.rules.specs.Cells.{undefined, Value, scalar, plain}
+use Rattle.rules.specs.Heap.{Entry, cell_at}
 use Rattle.rules.specs.Layout.{Lent, cell_from, value_from, entry_at, header, row, element, heap_of, layout_rules}
 use Rattle.heap_sound_rows.specs.Rows.{word}
 

@@ -1,13 +1,11 @@
 -- Setup's numbers and the counts as facts on numbers, each way. Assumes nothing.
-use mathlib.Core.Path.{◌≡◌, refl, sym, ap, ◌∙◌}
-use mathlib.Core.Bool.{Bool, true, false}
-use mathlib.Core.List.{List}
-use Prim.Native.Nat.{ℕ, ◌+◌, ◌-◌, ◌*◌, ◌/◌, ◌%◌, ◌≤◌, ◌<◌}
-use native.Mathlib.Omega.{arith}
+use mathlib.Core.Path.{◌≡◌, sym}
+use mathlib.Core.Bool.{true}
+use Prim.Native.Nat.{ℕ, ◌+◌, ◌-◌, ◌*◌, ◌/◌, ◌%◌, ◌≤◌}
 use borrow.Author.Tests.{leb-true, eqb-true, eq-eqb, le-leb}
 use lib.Dec.{eqb, leb}
 use lib.ListN.{length, get_or}
-use Rattle.laws.specs.Basics.{both, between}
+use Rattle.laws.specs.Basics.{between}
 use Rattle.laws.proofs.Tests.{both_left, both_right, both_true}
 use Rattle.rules.specs.Numbers.{least_slots, most_slots, most_bytes, most_elements, numbers}
 use Rattle.rules.specs.Layout.{Lent, rooms_of, map_bytes, whole_rooms, header, layout_rules}

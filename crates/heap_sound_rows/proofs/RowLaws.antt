@@ -2,13 +2,13 @@
 use mathlib.Core.Path.{◌≡◌, refl, sym, ap, ◌∙◌}
 use mathlib.Core.Bool.{Bool, true, false}
 use mathlib.Core.List.{List, [], ◌∷◌}
-use Prim.Native.Nat.{ℕ, zero, suc, ◌+◌, ◌-◌, ◌*◌, ◌/◌, ◌%◌, ◌^◌, ◌≤◌, ◌<◌}
+use Prim.Native.Nat.{ℕ, zero, suc, ◌+◌, ◌-◌, ◌*◌, ◌/◌, ◌%◌, ◌≤◌, ◌<◌}
 use native.Mathlib.Omega.{arith}
 use borrow.Author.Tests.{eqb-true, eq-eqb, ne_eqb, leb-true, le-leb, lt-ltb, le-ltb}
 use lib.Dec.{eqb, leb, ltb}
 use lib.ListN.{length, get_or}
 use Rattle.laws.specs.Basics.{choose, both, either, every_below, same, basics}
-use Rattle.laws.proofs.Tests.{true≢false, both_left, both_right, both_true, either_cases, either_left, either_right, below_all, all_below, same_equal, same_refl}
+use Rattle.laws.proofs.Tests.{true≢false, both_left, both_right, both_true, either_cases, either_left, below_all, all_below, same_equal}
 use Rattle.laws.proofs.Checks.{refuted, agreeing, pass, fail}
 use Rattle.rules.specs.Map.{state_in, state_of, is_allocated, Free, Allocated, map_rules}
 use Rattle.rules.specs.Layout.{cell_words, cell_from, value_words, value_from}

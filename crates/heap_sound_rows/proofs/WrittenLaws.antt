@@ -1,30 +1,29 @@
 -- "spare room is zero", and kinds are known: the lists are what the layout writes for the heap that they hold exactly where
 -- each word is one that it writes. Assumes nothing.
 use mathlib.Core.Path.{◌≡◌, refl, sym, ap, ◌∙◌, subst}
-use mathlib.Core.Bool.{Bool, true, false}
-use mathlib.Core.List.{List, [], ◌∷◌, ◌++◌, map, reverse}
-use mathlib.Core.Logic.{⊎_elim}
+use mathlib.Core.Bool.{Bool, true}
+use mathlib.Core.List.{List, [], ◌∷◌, map, reverse}
 use Prim.Native.Nat.{ℕ, zero, suc, ◌+◌, ◌-◌, ◌*◌, ◌/◌, ◌%◌, ◌≤◌, ◌<◌}
 use native.Mathlib.Nat.{add-zero}
 use native.Mathlib.Decide.{dec_lt}
 use native.Mathlib.Omega.{arith}
 use borrow.Author.Tests.{eqb-true, eq-eqb, lt-ltb, le-ltb}
-use lib.Dec.{eqb, ltb}
-use lib.ListN.{length, get_or, take, get_or-append, get_or-eq_default}
+use lib.Dec.{ltb}
+use lib.ListN.{length, get_or, take, get_or-eq_default}
 use lib.Seq.{get_or-take, length-take-le, ext_get_or}
-use Rattle.laws.specs.Basics.{choose, both, either, every_below, join, same, zeros, basics}
-use Rattle.laws.proofs.Tests.{true≢false, both_left, both_right, both_true, either_cases, either_left, either_right, below_all, all_below, same_equal, same_refl}
+use Rattle.laws.specs.Basics.{either, every_below, join, same}
+use Rattle.laws.proofs.Tests.{both_left, both_right, both_true, either_left, either_right, below_all, all_below, same_equal, same_refl}
 use Rattle.laws.proofs.Lists.{get_d_rows, length-rows}
 use Rattle.laws.proofs.Stores.{get_or_before_zeros}
-use Rattle.rules.specs.Cells.{undefined, Value, scalar, Cell, plain}
-use Rattle.rules.specs.Heap.{Heap, Entry, capacity, cell_at}
-use Rattle.rules.specs.Layout.{Lent, rooms_of, map_bytes, cell_words, cell_from, value_words, value_from, header_words, row_words, words_of, entry_at, filled, lent_of, heap_of, same_lent, layout_rules}
+use Rattle.rules.specs.Cells.{undefined, Value, scalar}
+use Rattle.rules.specs.Heap.{Entry, capacity, cell_at}
+use Rattle.rules.specs.Layout.{Lent, rooms_of, map_bytes, cell_words, value_words, value_from, header_words, row_words, entry_at, filled, lent_of, heap_of, layout_rules}
 use Rattle.rules.specs.Sound.{written_out, sound_rules}
-use Rattle.rules.proofs.LentLaws.{cell_width, value_width, words_length, word_at, cell_word, column_word, words_again, filled_length}
-use Rattle.heap_sound_rows.specs.Rows.{is_zero, spare_zero, word, cell_kept, columns_kept, row_kept, element_kept}
+use Rattle.rules.proofs.LentLaws.{cell_width, value_width, word_at, cell_word, column_word, words_again, filled_length}
+use Rattle.heap_sound_rows.specs.Rows.{is_zero, spare_zero, word, cell_kept, row_kept, element_kept}
 use Rattle.heap_sound_rows.proofs.NumberLaws.{Numbers, Counts}
 use Rattle.heap_sound_rows.proofs.RowLaws.{cell_below, cell_past, element_is}
-use Rattle.heap_sound_rows.proofs.HeapFacts.{cells_length, free_length, table_length, bytes_length, map-length, elements_length, cell_is, cell_none, place_is, place_none, entry_is, entry_none, element_at}
+use Rattle.heap_sound_rows.proofs.HeapFacts.{cells_length, free_length, table_length, bytes_length, elements_length, cell_is, cell_none, place_is, place_none, entry_is, entry_none, element_at}
 
 -- ---- rooms with zeros after what is in use
 

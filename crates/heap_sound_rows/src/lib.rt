@@ -1,6 +1,8 @@
 // The lists that a caller lends, looked at word by word: the numbers and counts, the states, and that what is not in use is
 // zero and every kind is known. Document 01, "A heap is sound when": "the numbers above", "no state is Used or 3", "spare
 // room is zero"; and 11's rules on kinds. Nothing is changed.
+#![tactic(auto)]
+
 ghost use Rattle.std.specs.Prelude.{true, ◌≡◌, [], ◌∷◌, ◌+◌, ◌-◌, ◌*◌, ◌/◌, ◌≤◌, ◌<◌, ltb, length, get_or};
 ghost use Rattle.laws.specs.Basics.{either, same, every_below};
 ghost use Rattle.rules.specs.Layout.{cell_words, cell_from, value_words, value_from};

@@ -2,22 +2,22 @@
 use mathlib.Core.Path.{◌≡◌, refl, sym, ap, ◌∙◌, subst}
 use mathlib.Core.Bool.{Bool, true, false}
 use mathlib.Core.List.{List}
-use Prim.Native.Nat.{ℕ, zero, suc, ◌+◌, ◌-◌, ◌*◌, ◌≤◌, ◌<◌}
+use Prim.Native.Nat.{ℕ, ◌+◌, ◌-◌, ◌*◌, ◌≤◌, ◌<◌}
 use native.Mathlib.Decide.{ℕ_discrete, dec_lt}
 use native.Mathlib.Nat.{zero-add}
 use native.Mathlib.Omega.{arith}
-use borrow.Author.Tests.{eqb-true, eq-eqb, ne_eqb, ltb-true, lt-ltb}
+use borrow.Author.Tests.{eqb-true, eq-eqb, ne_eqb, ltb-true}
 use lib.Dec.{eqb, ltb}
 use lib.ListN.{length, get_or, set, take, drop, length-set}
 use lib.Seq.{get_or-set_same, get_or-set_other, ext_get_or}
-use Rattle.laws.specs.Basics.{both, every_below, rising}
-use Rattle.laws.proofs.Tests.{true≢false, both_left, both_right, both_true, below_all, all_below}
+use Rattle.laws.specs.Basics.{every_below, rising}
+use Rattle.laws.proofs.Tests.{true≢false, both_left, both_right, below_all, all_below}
 use Rattle.laws.proofs.Lists.{length-rising, get_or_rising}
 use Rattle.laws.proofs.Checks.{pass, fail}
 use Rattle.leaf_names.specs.Keys.{key_of, Within, Entries, Goes, neighbours_differ}
 use Rattle.leaf_names.specs.Ordering.{Key}
 use Rattle.leaf_sort.specs.Sinking.{Arranged}
-use Rattle.leaf_sort.proofs.Arranging.{one_each, two_clash, Clash}
+use Rattle.leaf_sort.proofs.Arranging.{one_each, two_clash}
 use Rattle.heap_sound_rows.specs.Rows.{word}
 use Rattle.heap_sound_cells.specs.Looked.{used_slot}
 use Rattle.heap_sound_cells.proofs.FirstLaws.{read_bound, apart_bound}

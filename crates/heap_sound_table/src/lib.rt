@@ -1,6 +1,8 @@
 // The symbol table of lent lists. Document 01, "A heap is sound when": "the symbol table has one entry a (name, scope), each
 // leading to an Allocated slot with that name, no two to the same slot". The slots are marked one by one; the keys are copied,
 // sorted, and compared with their neighbours.
+#![tactic(auto)]
+
 ghost use Rattle.std.specs.Prelude.{◌≡◌, ℕ, ◌+◌, ◌*◌, ◌<◌, ◌≤◌, length, get_or};
 ghost use Rattle.laws.specs.Basics.{every_below, rising};
 ghost use Rattle.heap_sound_rows.specs.Rows.{word};

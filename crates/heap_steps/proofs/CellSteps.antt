@@ -1,13 +1,13 @@
 -- A new cell: from the heap that can give a slot to the heap that has the cell. Assumes nothing.
-use mathlib.Core.Path.{◌≡◌, refl, sym, ap, ◌∙◌, subst, subst₂}
+use mathlib.Core.Path.{◌≡◌, sym, ap, ◌∙◌, subst, subst₂}
 use mathlib.Core.List.{List, [], ◌++◌}
 use Prim.Native.Nat.{ℕ, ◌+◌, ◌*◌, ◌≤◌, ◌<◌}
 use native.Mathlib.Omega.{arith}
-use lib.ListN.{length, get_or, set, length-set, length-append}
-use Rattle.rules.specs.Cells.{Value, slot, Cell, string, symbol, block, Block}
-use Rattle.rules.specs.Heap.{Heap, Given, capacity, pop, grow, alloc, with_cell, with_bytes, block_after, heap_rules}
-use Rattle.rules.specs.Layout.{words_of, map_bytes, filled, layout_rules}
-use Rattle.rules.specs.Put.{Making, Put, making, put_string, new_cell, put_rules}
+use lib.ListN.{length, get_or}
+use Rattle.rules.specs.Cells.{slot, Cell, string, block, Block}
+use Rattle.rules.specs.Heap.{Heap, Given, capacity, pop, grow, alloc, with_cell, with_bytes, block_after}
+use Rattle.rules.specs.Layout.{words_of, filled, layout_rules}
+use Rattle.rules.specs.Put.{making, new_cell, put_rules}
 use Rattle.rules.proofs.LentLaws.{words_length, filled_length}
 use Rattle.leaf_cells.specs.Cells.{cell_of, Stored}
 use Rattle.leaf_rooms.specs.Rooms.{Appended}
@@ -15,7 +15,7 @@ use Rattle.leaf_cells.specs.declared.VCell.{VCell}
 use Rattle.leaf_cells.specs.declared.Change.{Change}
 use Rattle.leaf_cells.proofs.CallLaws.{store_on, append_words, append_bytes, append_place}
 use Rattle.leaf_free.specs.FreeList.{ready, CanAlloc, Popped}
-use Rattle.leaf_free.proofs.Allocating.{Growing, Room, available, Next, Filled, next, empty, free_or_not, pop_is, alloc_next, alloc_empty, room, can_alloc, alloc_given, alloc_growing, GivenBy, next_below, grow_growing, grow_next}
+use Rattle.leaf_free.proofs.Allocating.{Growing, Room, Next, next, empty, free_or_not, pop_is, alloc_next, alloc_empty, room, can_alloc, alloc_given, alloc_growing, GivenBy, next_below, grow_growing, grow_next}
 use Rattle.heap_steps.specs.Steps.{Open, CellMade, TextOpen, Left, StringPut}
 use Rattle.heap_steps.proofs.Sizes.{Sized, alloc_taken}
 

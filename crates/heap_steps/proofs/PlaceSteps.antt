@@ -1,20 +1,20 @@
 -- A value given a slot, and a value's cell copied. Assumes nothing.
-use mathlib.Core.Path.{◌≡◌, refl, sym, ap, ◌∙◌, subst}
+use mathlib.Core.Path.{◌≡◌, sym, ap, ◌∙◌}
 use mathlib.Core.List.{List, []}
-use Prim.Native.Nat.{ℕ, ◌+◌, ◌*◌, ◌≤◌, ◌<◌}
+use Prim.Native.Nat.{ℕ, ◌+◌, ◌*◌, ◌≤◌}
 use native.Mathlib.Omega.{arith}
 use lib.ListN.{length}
-use Rattle.rules.specs.Cells.{Value, slot, scalar, Cell, plain}
-use Rattle.rules.specs.Heap.{Heap, capacity, cell_at, shown, with_cell}
-use Rattle.rules.specs.Layout.{words_of, map_bytes, filled}
-use Rattle.rules.specs.Put.{Put, making, put_as, new_cell, in_slot, slot_in, put_rules}
+use Rattle.rules.specs.Cells.{Value, slot, scalar, Cell}
+use Rattle.rules.specs.Heap.{Heap, cell_at, shown, with_cell}
+use Rattle.rules.specs.Layout.{words_of}
+use Rattle.rules.specs.Put.{making, new_cell, put_rules}
 use Rattle.rules.proofs.LentLaws.{words_length}
 use Rattle.leaf_cells.specs.Cells.{cell_of, loaded, Stored}
 use Rattle.leaf_cells.specs.declared.VCell.{VCell}
 use Rattle.leaf_cells.specs.declared.Change.{Change}
 use Rattle.leaf_cells.proofs.CallLaws.{load_on, store_on}
 use Rattle.heap_steps.specs.Steps.{Open, CellMade}
-use Rattle.heap_steps.specs.Places.{Shape, at, new, shape_of, SlotOpen, SlotMade, CopyOpen}
+use Rattle.heap_steps.specs.Places.{at, new, shape_of, SlotOpen, SlotMade, CopyOpen}
 
 at_same : {s t : ℕ} → at s ≡ at t → s ≡ t
 at_same e = cc

@@ -2,21 +2,21 @@
 -- step of it. Assumes nothing.
 use mathlib.Core.Path.{◌≡◌, refl, sym, ap, ◌∙◌, subst}
 use mathlib.Core.Bool.{Bool, true, false}
-use mathlib.Core.List.{List, [], ◌∷◌, ◌++◌, reverse, append-nil}
+use mathlib.Core.List.{List, [], ◌∷◌, ◌++◌, reverse}
 use mathlib.Core.Option.{Option, none, some}
-use Prim.Native.Nat.{ℕ, zero, suc, ◌+◌, ◌-◌, ◌*◌, ◌≤◌, ◌<◌}
+use Prim.Native.Nat.{ℕ, suc, ◌+◌, ◌-◌, ◌≤◌, ◌<◌}
 use native.Mathlib.Omega.{arith}
 use lib.Dec.{eqb}
 use lib.ListN.{length, set, replicate, length-append, length-set, length-reverse, length-replicate}
-use Rattle.laws.specs.Basics.{choose, rising, basics}
+use Rattle.laws.specs.Basics.{choose, rising}
 use Rattle.laws.proofs.Lists.{length-rising}
 use Rattle.rules.specs.Cells.{Value, slot, scalar, Cell, plain, undefined, pair, symbol, string, vector}
 use Rattle.rules.specs.Nodes.{Atom}
 use Rattle.rules.specs.Datum.{Datum, Data, atom, end, more, how_many}
-use Rattle.rules.specs.Heap.{Heap, Entry, Given, capacity, used_count, free_count, grow, pop, alloc, found, with_cell, with_element, with_bytes, with_elements, with_entry, block_after, heap_rules}
-use Rattle.rules.specs.Put.{Label, Making, Put, making, put_as, new_cell, in_slot, slot_in, put_string, make_symbol, put_symbol, with_label, slot_of, begin_label, labelled, end_label, with_block, store_at, put_atom, put, put_all, put_datum, put_rules}
+use Rattle.rules.specs.Heap.{Heap, Entry, Given, capacity, used_count, grow, pop, alloc, found, with_cell, with_bytes, with_entry, block_after}
+use Rattle.rules.specs.Put.{Label, Making, Put, making, put_as, new_cell, in_slot, put_string, make_symbol, put_symbol, with_label, begin_label, labelled, end_label, with_block, store_at, put_atom, put, put_all, put_rules}
 use Rattle.rules.proofs.Growth.{Whole, grown_whole, rises}
-use Rattle.leaf_free.proofs.Allocating.{Next, Filled, next, empty, free_or_not, pop_is, alloc_next, alloc_empty}
+use Rattle.leaf_free.proofs.Allocating.{Next, next, empty, free_or_not, pop_is, alloc_next, alloc_empty}
 use Rattle.leaf_free.proofs.FreeWords.{goal}
 
 -- ---- allocating, with no bound on the slots

@@ -1,9 +1,9 @@
 -- A value where a slot or a cell is wanted: the slot that it is, or the cell that it would be. Assumes nothing.
 use Rattle.std.specs.Prelude.{◌≡◌, List, [], ℕ, ◌+◌, ◌<◌}
 use Rattle.rules.specs.Cells.{Value, slot, scalar, Cell, plain}
-use Rattle.rules.specs.Heap.{Heap, capacity, shown, with_cell}
+use Rattle.rules.specs.Heap.{Heap, capacity}
 use Rattle.rules.specs.Layout.{words_of, map_bytes, filled}
-use Rattle.rules.specs.Put.{Put, making, put_as, in_slot, slot_in}
+use Rattle.rules.specs.Put.{making, put_as, in_slot, slot_in}
 use Rattle.leaf_cells.specs.Cells.{cell_of}
 use Rattle.heap_steps.specs.Steps.{Open}
 use Rattle.heap_steps.specs.declared.Place.{Place}

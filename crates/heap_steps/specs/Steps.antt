@@ -1,8 +1,8 @@
 -- What a step of a put finds and leaves, in the lent lists: a heap that can give a slot, and that heap with one more cell,
 -- text or symbol, just as the rules have it. Assumes nothing.
-use Rattle.std.specs.Prelude.{◌≡◌, List, [], ◌++◌, ℕ, ◌+◌, ◌≤◌, ◌<◌, length}
+use Rattle.std.specs.Prelude.{◌≡◌, List, [], ℕ, ◌+◌, ◌≤◌, ◌<◌, length}
 use Rattle.std.proofs.Math.Option.{none}
-use Rattle.rules.specs.Cells.{Value, slot, Cell}
+use Rattle.rules.specs.Cells.{slot, Cell}
 use Rattle.rules.specs.Heap.{Heap, alloc, found, with_cell}
 use Rattle.rules.specs.Layout.{words_of, map_bytes, filled}
 use Rattle.rules.specs.Put.{making, put_string, make_symbol, put_symbol}

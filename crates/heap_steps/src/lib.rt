@@ -1,5 +1,7 @@
 // The steps that a put is made of (heap.rs, put): a new cell, a string, a symbol found or made. Each is the rules' step on
 // the lent lists. Document 01, "Slots and growth".
+#![tactic(auto)]
+
 ghost use Rattle.std.specs.Prelude.{◌≡◌, ℕ};
 ghost use Rattle.rules.specs.Heap.{Heap, shown, with_cell};
 ghost use Rattle.rules.specs.Layout.{words_of};
@@ -67,7 +69,7 @@ pub fn put_symbol(
 }
 
 // A slot, or the cell of a scalar.
-#[derive(Drop)]
+#[derive(Clone, Copy)]
 pub enum Place {
     At(usize),
     New(VCell),

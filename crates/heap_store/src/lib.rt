@@ -2,6 +2,8 @@
 // Element store: a scalar or a used slot", "15 | element store: not a vector or no such element; cell store: the slot holds a
 // symbol". A block that a cell store lets go keeps its room until a collection; an element store shows through every slot that
 // shows the block.
+#![tactic(auto)]
+
 ghost use Rattle.std.specs.Prelude.{◌≡◌, ◌+◌, ◌^◌, ◌<◌};
 ghost use Rattle.rules.specs.Cells.{is_symbol};
 ghost use Rattle.rules.specs.Layout.{heap_of};
@@ -15,7 +17,7 @@ ghost use Rattle.heap_store.specs.Stores.{store_told, place_answer, Ready, store
 use leaf_cells::{VCell, Value};
 
 // A store is done, or 15.
-#[derive(Drop)]
+#[derive(Clone, Copy)]
 pub enum StoreAnswer {
     Done,
     WrongCell,
@@ -50,7 +52,7 @@ pub fn cell_store(
 }
 
 // Where an element is in the element arena.
-#[derive(Drop)]
+#[derive(Clone, Copy)]
 enum ElementPlace {
     At(usize),
     Missing,

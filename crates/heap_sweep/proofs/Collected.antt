@@ -3,24 +3,24 @@
 use mathlib.Core.Path.{◌≡◌, sym, ap, ◌∙◌, subst}
 use mathlib.Core.Bool.{true}
 use mathlib.Core.List.{List}
-use Prim.Native.Nat.{ℕ, ◌-◌, ◌/◌, ◌≤◌, ◌<◌}
+use Prim.Native.Nat.{ℕ, ◌-◌, ◌≤◌, ◌<◌}
 use native.Mathlib.Omega.{arith}
 use lib.ListN.{length, get_or}
-use Rattle.laws.specs.Basics.{every, rising, basics}
+use Rattle.laws.specs.Basics.{every, rising}
 use Rattle.laws.proofs.Stores.{get_or_before_zeros}
 use Rattle.rules.specs.Map.{Used}
 use Rattle.rules.specs.Heap.{Heap, capacity, in_use}
 use Rattle.rules.specs.Collect.{marked, sweep, drop_entries}
-use Rattle.rules.specs.Layout.{Lent, rooms_of, map_bytes, words_of, filled, lent_of, heap_of, layout_rules}
+use Rattle.rules.specs.Layout.{Lent, rooms_of, map_bytes, words_of, filled, heap_of, layout_rules}
 use Rattle.rules.specs.Sound.{sound}
 use Rattle.rules.proofs.TwoBits.{Bytes}
-use Rattle.rules.proofs.SoundLaws.{clauses, bounds, lists_again, sound_fits}
+use Rattle.rules.proofs.SoundLaws.{clauses, lists_again, sound_fits}
 use Rattle.rules.proofs.Good.{Good, table_most}
 use Rattle.rules.proofs.GoodSound.{sound_good}
 use Rattle.heap_sound_rows.specs.Rows.{lists}
-use Rattle.heap_mark.specs.Marks.{set_states, linked, marked_map}
+use Rattle.heap_mark.specs.Marks.{set_states, marked_map}
 use Rattle.heap_mark.proofs.SoundMarks.{marked_same, map_again, marked_used}
-use Rattle.heap_sweep.specs.Sweeps.{Swept, swept, sweep_dropped, CanDrop}
+use Rattle.heap_sweep.specs.Sweeps.{swept, sweep_dropped, CanDrop}
 use Rattle.heap_sweep.proofs.HeapSweep.{Between, marked_between, can_drop_too, swept_dropped}
 
 module _ (words map bytes elems roots : List ℕ) (s : sound (lists words map bytes elems) ≡ true) (u : every (in_use (heap_of (lists words map bytes elems))) roots ≡ true) (small : Bytes map) where

@@ -2,29 +2,27 @@
 use mathlib.Core.Path.{◌≡◌, refl, sym, ap, ◌∙◌, subst}
 use mathlib.Core.Bool.{Bool, true, false}
 use mathlib.Core.List.{List, [], ◌∷◌}
-use Prim.Native.Nat.{ℕ, zero, suc, ◌+◌, ◌-◌, ◌*◌, ◌/◌, ◌≤◌, ◌<◌}
+use Prim.Native.Nat.{ℕ, suc, ◌+◌, ◌-◌, ◌*◌, ◌≤◌, ◌<◌}
 use native.Mathlib.Omega.{arith}
 use native.Mathlib.Decide.{ℕ_discrete}
-use borrow.Author.Tests.{eq-eqb, ne_eqb, eqb-true, eqb-false}
+use borrow.Author.Tests.{eq-eqb, ne_eqb}
 use lib.Dec.{eqb}
-use lib.ListN.{length, get_or, set, length-set}
-use lib.Seq.{length-sets, get_or-set_same, get_or-set_other}
+use lib.ListN.{length, get_or, set}
+use lib.Seq.{length-sets, get_or-set_other}
 use Rattle.laws.specs.Basics.{choose, keep, rising, basics}
-use Rattle.laws.proofs.Tests.{true≢false}
 use Rattle.laws.proofs.Lists.{get_or_rising, length-rising}
 use Rattle.laws.proofs.Finding.{keep_same}
 use Rattle.laws.proofs.Stores.{sets_other}
-use Rattle.rules.specs.Map.{Free, Allocated, Used, state_of, set_state, is_allocated, map_rules}
-use Rattle.rules.specs.Cells.{plain, undefined, Cell}
+use Rattle.rules.specs.Map.{Free, Allocated, Used, state_of, is_allocated, map_rules}
+use Rattle.rules.specs.Cells.{plain, undefined}
 use Rattle.rules.specs.Layout.{cell_words}
 use Rattle.rules.proofs.TwoBits.{set-state-length, state_other}
-use Rattle.rules.proofs.LentLaws.{cell_width}
 use Rattle.leaf_free.specs.FreeList.{capacity_of, count_of, place, pushed}
 use Rattle.leaf_free.proofs.Steps.{length-pushed, count_pushed}
 use Rattle.leaf_rooms.specs.Rooms.{stored}
 use Rattle.leaf_cells.specs.Cells.{stored_cell}
 use Rattle.leaf_symbols.specs.Table.{dropped}
-use Rattle.heap_sweep.specs.Sweeps.{Swept, swept, freed, kept, sweep_slot, sweep_slots, sweep_all, sweep_dropped, doomed, CanSlot, CanSweep, CanDrop, sweep_words}
+use Rattle.heap_sweep.specs.Sweeps.{Swept, swept, freed, kept, sweep_slot, sweep_slots, sweep_all, sweep_dropped, doomed, CanSlot, CanSweep, CanDrop}
 
 -- ---- the three ways of a slot
 

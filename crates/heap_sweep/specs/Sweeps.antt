@@ -1,7 +1,7 @@
 -- Sweeping in the lent words and the lent map, slot by slot: one that is still Allocated was not reached and is freed, one that
 -- is Used is Allocated again. Document 01, "Slots and growth": "It frees, in rising order, what is not reached, writes Undefined
 -- there, and puts each on top of the list." Assumes nothing.
-use Rattle.std.specs.Prelude.{◌≡◌, Bool, true, false, List, [], ◌∷◌, ℕ, ◌+◌, ◌*◌, ◌/◌, ◌≤◌, ◌<◌, eqb, length, get_or}
+use Rattle.std.specs.Prelude.{◌≡◌, true, List, [], ◌∷◌, ℕ, ◌+◌, ◌*◌, ◌/◌, ◌≤◌, ◌<◌, eqb, length, get_or}
 use Rattle.laws.specs.Basics.{choose, keep, rising, basics}
 use Rattle.rules.specs.Map.{Free, Allocated, Used, state_of, set_state, is_allocated}
 use Rattle.rules.specs.Cells.{plain, undefined}

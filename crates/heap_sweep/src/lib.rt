@@ -1,6 +1,8 @@
 // Sweeping (gc.rs, heap.rs: sweep, free). Document 01, "Slots and growth": "It frees, in rising order, what is not reached,
 // writes Undefined there, and puts each on top of the list." "A swept symbol leaves the table." Before it what is reached was
 // marked Used; afterwards every slot is Free or Allocated.
+#![tactic(auto)]
+
 ghost use Rattle.std.specs.Prelude.{◌≡◌};
 ghost use Rattle.heap_sweep.specs.Sweeps.{swept, sweep_slot, sweep_all, sweep_dropped, CanSlot, CanSweep, CanDrop};
 

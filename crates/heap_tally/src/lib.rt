@@ -1,6 +1,8 @@
 // What is tallied of a datum's nodes, node by node, by the check of put. Document 01, "Numbers": "A datum: 4,096 nodes, 64 distinct
 // labels, vectors of 1,024, strings of 4,096 bytes, names of 255 bytes (0 allowed)"; and row 13, "a label is referred to before a
 // definition of it has begun".
+#![tactic(auto)]
+
 ghost use Rattle.std.specs.Prelude.{◌≡◌, [], false, ◌+◌, ◌^◌, ◌<◌};
 ghost use Rattle.laws.specs.Basics.{member};
 ghost use Rattle.rules.specs.Nodes.{Node};
@@ -12,7 +14,7 @@ const LABELS: usize = 64;
 
 // The nodes so far, whether one broke a number of its own or a label was one too many, whether a reference came early, and
 // the distinct labels: the first `known` of the array.
-#[derive(Drop)]
+#[derive(Clone, Copy)]
 pub struct Tally {
     pub nodes: usize,
     pub over: bool,

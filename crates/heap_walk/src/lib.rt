@@ -4,6 +4,8 @@
 //
 // The scratch has a word for each slot: 0 not met, 1 met, 2 on the path, and four for each label, counted from 1. The walk
 // recurses over slots; a path has each slot once, so the bound of the capacity and one is never used up.
+#![tactic(auto)]
+
 ghost use Rattle.std.specs.Prelude.{◌≡◌, ◌+◌, ◌*◌, ◌≤◌, ◌<◌, length};
 ghost use Rattle.rules.specs.Heap.{Heap};
 ghost use Rattle.rules.specs.Layout.{Rooms};
@@ -42,7 +44,7 @@ fn met_again(marks: &mut [u64], count: usize, slot: usize) -> usize
 }
 
 // Walks from a slot. The answer is how many labels there are then.
-#[cycle(walk_walk_element_walk_elements_walk_parts)]
+#[cycle(walking)]
 fn walk(
     words: &[u64],
     elems: &[u64],
@@ -70,7 +72,7 @@ fn walk(
 }
 
 // Walks what a slot's cell holds: "car before cdr, elements in order".
-#[cycle(walk_walk_element_walk_elements_walk_parts)]
+#[cycle(walking)]
 fn walk_parts(
     words: &[u64],
     elems: &[u64],
@@ -94,7 +96,7 @@ fn walk_parts(
 }
 
 // Walks n elements from a place on.
-#[cycle(walk_walk_element_walk_elements_walk_parts)]
+#[cycle(walking)]
 fn walk_elements(
     words: &[u64],
     elems: &[u64],
@@ -117,7 +119,7 @@ fn walk_elements(
 }
 
 // Walks the element at a place; a scalar leads nowhere.
-#[cycle(walk_walk_element_walk_elements_walk_parts)]
+#[cycle(walking)]
 fn walk_element(
     words: &[u64],
     elems: &[u64],

@@ -124,8 +124,8 @@ next_given no_more = refl
 next_given (one_next e r) = λ i. e i ∷ next_given r i
 
 next_same : {h k : Heap} {ss : List ℕ} → supply_of k ≡ supply_of h → NextSlots k ss → NextSlots h ss
-next_same p no_more = no_more
-next_same {h} {k} p (one_next e r) = one_next (e ∙ same_slot h k p) (next_same (same_left h k p) r)
+next_same {h = h} {k = k} p no_more = no_more
+next_same {h = h} {k = k} p (one_next e r) = one_next (e ∙ same_slot h k p) (next_same {h = (alloc h).heap} {k = (alloc k).heap} (same_left h k p) r)
 
 allocs_same : (ss : List ℕ) (h k : Heap) → supply_of k ≡ supply_of h → supply_of (allocs ss k) ≡ supply_of (allocs ss h)
 unfolding allocs

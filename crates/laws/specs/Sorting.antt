@@ -1,6 +1,6 @@
 -- A list in order, and a list with the same numbers as another. Assumes nothing.
 use Rattle.std.specs.Prelude.{◌≡◌, List, ℕ, ◌<◌, ◌≤◌, length, get_or, set}
-use Rattle.laws.specs.Basics.{count, basics}
+use Rattle.laws.specs.Basics.{count}
 
 -- the same numbers, each as often
 pub record Permuted (xs ys : List ℕ) : Type 0 where

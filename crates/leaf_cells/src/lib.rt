@@ -1,6 +1,8 @@
 // Cells and elements in the lent lists (vcell.rs). Document 01, "Port order": "`VCell` becomes an enum by value whose vector case
 // holds a place and a length; an answer enum holds that enum." The lists are laid out as rules' Layout says: words with 8 of header
 // and a row of 8 a slot, elements of 3 words.
+#![tactic(auto)]
+
 ghost use Rattle.std.specs.Prelude.{◌≡◌, ◌+◌, ◌*◌, ◌≤◌, length, get_or};
 ghost use Rattle.rules.specs.Layout.{cell_words, cell_from, value_words, value_from};
 ghost use Rattle.leaf_cells.specs.Words.{three};
@@ -10,7 +12,7 @@ ghost use Rattle.leaf_cells.specs.Elements.{value_of, loaded_element, ElementSto
 
 // "Cells kept: Bool, Char, Nil, Number, Pair, Symbol, String, Vector, Eof, Undefined, Void." A number is its 64 bits; a
 // pair has two slots; symbol, string and vector have a block's place and length.
-#[derive(Drop)]
+#[derive(Clone, Copy)]
 pub enum VCell {
     Undefined,
     Nil,
@@ -26,7 +28,7 @@ pub enum VCell {
 }
 
 // A cell's or an element's three words.
-#[derive(Drop)]
+#[derive(Clone, Copy)]
 pub struct Words {
     pub kind: u64,
     pub first: u64,
@@ -91,7 +93,7 @@ pub fn load(words: &[u64], slot: usize) -> VCell
 }
 
 // What a slot shows: its cell, if the slot is in use.
-#[derive(Drop)]
+#[derive(Clone, Copy)]
 pub enum Lookup {
     Found(VCell),
     NotInUse,
@@ -121,7 +123,7 @@ fn write_three(list: &mut [u64], at: usize, w: Words)
 }
 
 // A slot's cell before and after a store.
-#[derive(Drop)]
+#[derive(Clone, Copy)]
 pub struct Change {
     pub old: VCell,
     pub new: VCell,
@@ -138,7 +140,7 @@ pub fn store(words: &mut [u64], slot: usize, new: VCell) -> Change
 }
 
 // "a value is a slot or a scalar": what a vector's element is.
-#[derive(Drop)]
+#[derive(Clone, Copy)]
 pub enum Value {
     Slot(usize),
     Undefined,
@@ -192,7 +194,7 @@ pub fn load_element(elems: &[u64], at: usize) -> Value
 }
 
 // An element before and after a store.
-#[derive(Drop)]
+#[derive(Clone, Copy)]
 pub struct ElementChange {
     pub old: Value,
     pub new: Value,

@@ -1,6 +1,8 @@
 // Classes of slots, in place of the set of visited pairs of compare.rs: a class holds what was taken as equal, and what follows
 // from it. Document 01, "Equality": "The answer is false exactly when a finite chain of such steps fails." A word for each slot:
 // 0 not met, else one more than its link, which is the slot itself (a root) or a higher one of its class.
+#![tactic(auto)]
+
 ghost use Rattle.std.specs.Prelude.{◌≡◌, true, not, ◌<◌, length};
 ghost use Rattle.leaf_classes.specs.Classes.{met, Rises, meeting, Finds, Joins};
 

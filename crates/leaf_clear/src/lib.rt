@@ -1,4 +1,6 @@
 // Lent room set to zero. Document 01: "On return scratch is all zero"; "Room past the part in use is zero."
+#![tactic(auto)]
+
 ghost use Rattle.std.specs.Prelude.{◌≡◌, length};
 ghost use Rattle.laws.specs.Basics.{zeros};
 

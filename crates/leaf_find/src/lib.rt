@@ -1,5 +1,7 @@
 // A symbol found in the table (heap.rs: put, put_scoped_symbol). Document 01: "A symbol is found or made under (name, 0), an identifier
 // under (name, scope)". An entry's name is that of its slot's symbol.
+#![tactic(auto)]
+
 ghost use Rattle.std.specs.Prelude.{◌≡◌, ◌+◌, ◌*◌, ◌≤◌, length, take, drop};
 ghost use Rattle.laws.specs.Basics.{same};
 ghost use Rattle.leaf_symbols.specs.Table.{bytes_used, Least, name_of, Tabled, found_in};
@@ -45,7 +47,7 @@ pub fn name_is(words: &[u64], bytes: &[u8], slot: usize, name: &[u8]) -> bool
 }
 
 // The slot of an entry that was looked for.
-#[derive(Drop)]
+#[derive(Clone, Copy)]
 pub enum Found {
     At(usize),
     Missing,

@@ -2,6 +2,8 @@
 // to n × 3/2 rounded up; the new slots join in rising order, so the highest is given first. If the grown size exceeds the
 // lent slots it does not grow." The list stands in the lent words: its length in the header, its places in a column of
 // the rows, the next slot at the highest place in use.
+#![tactic(auto)]
+
 ghost use Rattle.std.specs.Prelude.{◌≡◌, ◌^◌, ◌<◌, ◌≤◌, length};
 ghost use Rattle.rules.specs.Heap.{grown, fitting, reaches, most_growths};
 ghost use Rattle.leaf_free.specs.FreeList.{count_of, place, pushed, fresh_words, grown_words, ready, CanStart, CanGrow, CanPop, CanAlloc, Popped};

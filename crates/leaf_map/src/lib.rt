@@ -1,5 +1,7 @@
 // The state map (gc.rs): document 01, "Slots and growth": "The state map has two bits a slot, four slots a byte, lowest
 // bits first: Free 0, Allocated 1, Used 2." A slot's state is a number below 4; the map is the lent bytes.
+#![tactic(auto)]
+
 ghost use Rattle.std.specs.Prelude.{◌≡◌, ◌*◌, ◌/◌, ◌^◌, ◌<◌, eqb, length};
 ghost use Rattle.rules.specs.Map.{Used, state_in, with_state, state_of, set_state, low_bits, set_low_bits};
 

@@ -1,23 +1,22 @@
 -- Entries by their keys: `Goes` is a total order, and what a sorted list's neighbours say of the whole list. Assumes nothing.
-use mathlib.Core.Path.{◌≡◌, refl, sym, ap, ◌∙◌, subst, subst⁻¹}
+use mathlib.Core.Path.{◌≡◌, refl, sym, ap, ◌∙◌, subst⁻¹}
 use mathlib.Core.Bool.{Bool, true, false, not}
 use mathlib.Core.List.{List, [], ◌∷◌}
 use Prim.Native.Nat.{ℕ, zero, suc, ◌+◌, ◌-◌, ◌*◌, ◌<◌, ◌≤◌}
 use native.Mathlib.Omega.{arith}
 use native.Mathlib.Numerals.{add-one}
 use native.Mathlib.Decide.{ℕ_discrete}
-use borrow.Author.Tests.{not-true, not-false}
+use borrow.Author.Tests.{not-true}
 use lib.ListN.{length, get_or, take, drop, set, length-drop, length-set}
 use lib.Seq.{drop-cons, length-take-le, get_or-take, get_or-set_same, get_or-set_other}
 use lib.Dec.{eqb}
-use Rattle.laws.specs.Basics.{both, same, count, rising, basics}
+use Rattle.laws.specs.Basics.{both, same}
 use Rattle.laws.specs.Sorting.{Permuted, Sorted}
 use Rattle.laws.proofs.Tests.{true≢false, both_left, both_right}
-use Rattle.laws.proofs.Lists.{length-rising, get_or_rising, count_rising_in}
-use Rattle.laws.proofs.Sorting.{counted, counted_twice, Stands, stands, permuted_all, permuted_sym, permuted_trans, sorted_determined}
+use Rattle.laws.proofs.Sorting.{permuted_all}
 use Rattle.leaf_names.specs.Ordering.{Standing, before, level, after, is_level, not_after, flip, then, number_compare, name_compare, Key, key_compare}
 use Rattle.leaf_names.specs.Keys.{key_of, Within, Entries, Goes, alike, neighbours_differ}
-use Rattle.leaf_names.proofs.Ordered.{Trichotomy, less, equal, more, trichotomy, level_is, not_level_is, after_is, key_flip, key_level, key_level_is, key_chain, key_antisym, then_not_after, number_same, same_level, name_level}
+use Rattle.leaf_names.proofs.Ordered.{level_is, after_is, key_flip, key_level, key_level_is, key_chain, key_antisym, then_not_after, number_same, same_level, name_level}
 
 -- ---- the key's parts
 

@@ -1,17 +1,16 @@
 -- The order of names and keys is total: level exactly where the two are equal, turned round by turning the two round, and
 -- what stands before stands before what follows. Assumes nothing.
-use mathlib.Core.Path.{◌≡◌, refl, sym, ap, ◌∙◌, subst}
-use mathlib.Core.Bool.{Bool, true, false, not}
+use mathlib.Core.Path.{◌≡◌, refl, sym, ap, ◌∙◌}
+use mathlib.Core.Bool.{Bool, true, false}
 use mathlib.Core.List.{List, [], ◌∷◌}
 use mathlib.Core.Logic.{◌⊎◌, inl, inr}
-use Prim.Native.Nat.{ℕ, zero, suc, ◌+◌, ◌<◌, ◌≤◌}
+use Prim.Native.Nat.{ℕ, ◌<◌}
 use native.Mathlib.Omega.{arith}
 use borrow.Author.Tests.{ltb-true, ltb-false, lt-ltb, le-ltb, eq-eqb, ne_eqb}
 use lib.Dec.{ltb, eqb}
-use lib.ListN.{length}
-use Rattle.laws.specs.Basics.{choose, both, same, basics}
+use Rattle.laws.specs.Basics.{same, basics}
 use Rattle.laws.proofs.Tests.{true≢false, same_refl, same_equal}
-use Rattle.leaf_names.specs.Ordering.{Standing, before, level, after, flip, then, is_level, not_after, number_compare, name_compare, Key, key_compare, ordering}
+use Rattle.leaf_names.specs.Ordering.{Standing, before, level, after, flip, then, is_level, not_after, number_compare, name_compare, Key, key_compare}
 
 -- ---- standings
 

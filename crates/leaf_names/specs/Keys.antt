@@ -1,6 +1,6 @@
 -- Keys in lent parts: entry e has its name's place, its name's size and its scope at 3 e, 3 e + 1 and 3 e + 2 of `keys`, and
 -- the name itself in `bytes`. Assumes nothing.
-use Rattle.std.specs.Prelude.{Bool, true, false, not, ◌≡◌, List, [], ◌∷◌, ℕ, ◌+◌, ◌*◌, ◌<◌, ◌≤◌, length, get_or, take, drop}
+use Rattle.std.specs.Prelude.{Bool, true, not, ◌≡◌, List, [], ◌∷◌, ℕ, ◌+◌, ◌*◌, ◌<◌, ◌≤◌, length, get_or, take, drop}
 use Rattle.laws.specs.Basics.{both}
 use Rattle.leaf_names.specs.Ordering.{Key, is_level, not_after, key_compare, ordering}
 

@@ -3,13 +3,15 @@
 //
 // An entry's key lies in lent parts: its name's place and size and its scope at 3 e, 3 e + 1 and 3 e + 2 of `keys`, its name's
 // bytes in `bytes`.
+#![tactic(auto)]
+
 ghost use Rattle.std.specs.Prelude.{◌≡◌};
 ghost use Rattle.laws.specs.Basics.{same};
 ghost use Rattle.leaf_names.specs.Ordering.{shown, then, not_after, number_compare, name_compare, key_compare};
 ghost use Rattle.leaf_names.specs.Keys.{key_of, Within, alike};
 
 // How one name or key stands to another.
-#[derive(Drop)]
+#[derive(Clone, Copy)]
 pub enum Order {
     Before,
     Same,

@@ -7,7 +7,7 @@ use native.Mathlib.Omega.{arith}
 use borrow.Author.Tests.{lt-ltb, le-ltb, ne_eqb}
 use lib.ListN.{length, get_or, take, drop, length-drop, length-append, get_or-eq_default}
 use lib.Seq.{drop-drop, get_or-drop, length-take-le}
-use Rattle.laws.specs.Basics.{choose, every, big, basics}
+use Rattle.laws.specs.Basics.{choose, big, basics}
 use Rattle.laws.proofs.Tests.{true≢false, both_true}
 use Rattle.rules.specs.Refusals.{cut_short, bad_bool, bad_char, unknown_kind}
 use Rattle.rules.specs.Utf8.{utf8, scalar_value, utf8_rules}

@@ -1,5 +1,5 @@
 -- What a node by value means in the rules' words, with the bytes that it was read from. Assumes nothing.
-use Rattle.std.specs.Prelude.{◌≡◌, Bool, true, false, List, [], ℕ, ◌+◌, ◌-◌, ◌^◌, ◌≤◌, ◌<◌, eqb, length, take, drop}
+use Rattle.std.specs.Prelude.{◌≡◌, Bool, true, false, List, ℕ, ◌+◌, ◌-◌, ◌^◌, ◌≤◌, ◌<◌, eqb, length, take, drop}
 use Rattle.laws.specs.Basics.{choose, big}
 use Rattle.rules.specs.Cells.{Scalar, undefined, nil, eof, void, bool, char, number}
 use Rattle.rules.specs.Refusals as rules

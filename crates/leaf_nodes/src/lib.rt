@@ -1,12 +1,14 @@
 // One node at the start of a lent datum. Document 01, "What a caller is told", row 11: "unknown kind, cut short, .. Bool
 // not 0 or 1, Char or UTF-8 not allowed". A node is its kind's number, then its fields, lowest byte first, as rules'
 // Nodes says; a text stands inline, behind its length.
+#![tactic(auto)]
+
 ghost use Rattle.std.specs.Prelude.{◌≡◌, List, ℕ, ◌+◌, ◌≤◌, ◌<◌, length, drop};
 ghost use Rattle.rules.specs.Nodes.{bool_node, char_node, field, text};
 ghost use Rattle.leaf_nodes.specs.Reads.{Number, Shows, ReadAs, TextRead, of_field, number_node, string_node, symbol_node, ident_node};
 
 // What is wrong with a malformed datum. Left over is for a whole datum: no single node is.
-#[derive(Drop)]
+#[derive(Clone, Copy)]
 pub enum Fault {
     UnknownKind,
     CutShort,
@@ -18,7 +20,7 @@ pub enum Fault {
 
 // A node, or what is wrong with it. A plain one is a scalar, never a slot. String, symbol and identifier (after its scope)
 // have their text's length; a vector how many data follow; reference and definition their label.
-#[derive(Drop)]
+#[derive(Clone, Copy)]
 pub enum Node {
     Faulty(Fault),
     Plain(leaf_cells::Value),
@@ -32,14 +34,14 @@ pub enum Node {
 }
 
 // A node and the bytes that it takes, of which its text is the last. A faulty one takes none.
-#[derive(Drop)]
+#[derive(Clone, Copy)]
 pub struct Read {
     pub node: Node,
     pub size: usize,
 }
 
 // A text's length, or what is wrong with the text.
-#[derive(Drop)]
+#[derive(Clone, Copy)]
 enum Text {
     Bad(Fault),
     Good(usize),

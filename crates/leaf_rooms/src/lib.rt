@@ -1,6 +1,8 @@
 // The rooms of the arenas: a text as the part of the bytes that holds it, and new blocks. Document 01: "A string or name is read as
 // the part of the byte arena that holds it", "New blocks go at the end of the room in use", "an empty one at place 0". Words 4 and
 // 5 of the header count the bytes and the elements in use.
+#![tactic(auto)]
+
 ghost use Rattle.std.specs.Prelude.{◌≡◌, ◌+◌, ◌^◌, ◌≤◌, ◌<◌, length, get_or};
 ghost use Rattle.leaf_rooms.specs.Rooms.{stored};
 ghost use Rattle.leaf_rooms.specs.Rooms.{Appended, Reserved};

@@ -6,7 +6,7 @@ use mathlib.Core.List.{List}
 use Prim.Native.Nat.{ℕ, ◌<◌}
 use native.Mathlib.Omega.{arith}
 use lib.ListN.{length, get_or}
-use Rattle.laws.specs.Basics.{count, rising, basics}
+use Rattle.laws.specs.Basics.{count, rising}
 use Rattle.laws.proofs.Lists.{length-rising, get_or_rising, count_rising_in}
 use Rattle.laws.proofs.Sorting.{counted_twice, Stands, stands, permuted_all, permuted_sym, permuted_trans, sorted_determined}
 use Rattle.leaf_names.specs.Keys.{key_of, Goes, neighbours_differ}

@@ -1,14 +1,14 @@
 -- A number sinks, the tree is built, and the list is drained of it into order: over any order of the numbers. Assumes
 -- nothing.
-use mathlib.Core.Path.{◌≡◌, refl, sym, ap, ◌∙◌, subst, subst⁻¹}
+use mathlib.Core.Path.{◌≡◌, refl, ap, ◌∙◌, subst⁻¹}
 use mathlib.Core.List.{List}
 use Prim.Native.Nat.{ℕ, zero, suc, ◌+◌, ◌-◌, ◌*◌, ◌/◌, ◌<◌, ◌≤◌}
 use native.Mathlib.Omega.{arith}
 use native.Mathlib.Decide.{ℕ_discrete}
 use lib.ListN.{length, get_or}
-use Rattle.laws.specs.Sorting.{Permuted, Sorted, swapped}
+use Rattle.laws.specs.Sorting.{Permuted, swapped}
 use Rattle.laws.proofs.Sorting.{permuted_refl, permuted_trans, swapped_left, swapped_right, swapped_other, length-swapped, permuted_swapped}
-use Rattle.leaf_names.proofs.Ordered.{Trichotomy, less, equal, more, trichotomy}
+use Rattle.leaf_names.proofs.Ordered.{less, equal, more, trichotomy}
 use Rattle.leaf_sort.specs.Sinking.{Heaped, Chosen, Sunk, Built, Arranged}
 
 module _ (le : ℕ → ℕ → Type 0) where

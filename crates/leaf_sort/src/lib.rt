@@ -2,6 +2,8 @@
 // is seen of a sorted table at its neighbours.
 //
 // `order` lists entries by their numbers; an entry's key lies in `keys` and `bytes` as leaf_names has it.
+#![tactic(auto)]
+
 ghost use Rattle.std.specs.Prelude.{◌≡◌, ◌+◌, ◌*◌, ◌<◌, ◌≤◌, length};
 ghost use Rattle.laws.specs.Sorting.{swapped};
 ghost use Rattle.leaf_names.specs.Keys.{Entries, Goes, neighbours_differ};

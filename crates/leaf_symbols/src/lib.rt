@@ -1,6 +1,8 @@
 // The symbol table (heap.rs: put, put_scoped_symbol, free): document 01, "Table entries stand in order of making, without gaps", and "A
 // swept symbol leaves the table." The table stands in the lent words: the number of its entries in the header, an entry's slot and
 // scope in two columns of the rows, in order of making.
+#![tactic(auto)]
+
 ghost use Rattle.std.specs.Prelude.{◌≡◌, ◌+◌, ◌*◌, ◌≤◌, length};
 ghost use Rattle.leaf_symbols.specs.Table.{count_of, entry, stored_entry, added, ClosedUp, cleared, dropped};
 

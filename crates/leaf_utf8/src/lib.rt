@@ -1,12 +1,14 @@
 // UTF-8 by RFC 3629, and Unicode scalar values. Document 01, "Numbers": "Strings and names are UTF-8 by RFC 3629; a Char
 // is a Unicode scalar value." The check is one pass, a byte a turn, with what is still awaited carried along.
+#![tactic(auto)]
+
 ghost use Rattle.std.specs.Prelude.{◌≡◌, List, ◌∷◌, ℕ};
 ghost use Rattle.rules.specs.Utf8.{follows, utf8_after, utf8, scalar_value};
 ghost use Rattle.leaf_utf8.specs.Awaiting.{ranges, shown, rest_good};
 
 // What must follow: `left` more bytes, the next of them from `low` to `high`, the others from 0x80 to 0xbf. With none
 // left a scalar value ends, and the next byte is a first byte.
-#[derive(Drop)]
+#[derive(Clone, Copy)]
 struct Awaited {
     left: u8,
     low: u8,
@@ -14,7 +16,7 @@ struct Awaited {
 }
 
 // What a byte leads to.
-#[derive(Drop)]
+#[derive(Clone, Copy)]
 enum Next {
     Bad,
     Good(Awaited),

@@ -3,6 +3,8 @@
 //
 // A write past the output's end is left out, so that lending an empty part counts the bytes and writes none: that is how a
 // read finds 12 and 18 before a byte is written.
+#![tactic(auto)]
+
 ghost use Rattle.std.specs.Prelude.{◌≡◌, ◌∷◌, ◌≤◌, length, set};
 ghost use Rattle.laws.specs.Basics.{little};
 ghost use Rattle.rules.specs.Cells.{Scalar};
@@ -16,7 +18,7 @@ use leaf_cells::Words;
 
 // How far a datum is written: the nodes that may still be written, the bytes so far, and whether a node was wanted when
 // none was left.
-#[derive(Drop)]
+#[derive(Clone, Copy)]
 pub struct Page {
     pub left: usize,
     pub at: usize,

@@ -28,6 +28,7 @@ record Placed {A : Type 0} (d : A) (l : List A) (a : A) : Type 0 where
   there : get_or l place d ≡ a
 
 placed : {A : Type 0} (d : A) (l : List A) (a : A) → Memᴰ a l → Placed d l a
+placed {A = A} d [] a x' = elim x' [ ]
 placed d (x ∷ l) a (Memᴰ.head p) = record { place = 0; inside = omega arith; there = sym p }
 placed d (x ∷ l) a (Memᴰ.tail m) =
     let r = placed d l a m in

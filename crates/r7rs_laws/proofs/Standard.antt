@@ -126,6 +126,26 @@ module _ (h : Heap) where
       walk_facing w (string b) (string c) p q (strings e) =
           at_end (ap is_pair p) ((λ i. eqv_cells h (p i) (q i)) ∙ same_texts b c e)
       walk_facing w (vector b) (vector c) p q (vectors e) = absurd (subst WalkStop p w.first)
+      walk_facing w (plain x) (pair b f) p q x7 = elim x7 [ ]
+      walk_facing w (plain x) (symbol c) p q x8 = elim x8 [ ]
+      walk_facing w (plain x) (string c) p q x9 = elim x9 [ ]
+      walk_facing w (plain x) (vector c) p q x10 = elim x10 [ ]
+      walk_facing w (pair a d) (plain y) p q x5 = elim x5 [ ]
+      walk_facing w (pair a d) (symbol c) p q x6 = elim x6 [ ]
+      walk_facing w (pair a d) (string c) p q x7 = elim x7 [ ]
+      walk_facing w (pair a d) (vector c) p q x8 = elim x8 [ ]
+      walk_facing w (symbol b) (plain y) p q x6 = elim x6 [ ]
+      walk_facing w (symbol b) (pair _ f) p q x8 = elim x8 [ ]
+      walk_facing w (symbol b) (string c) p q x8 = elim x8 [ ]
+      walk_facing w (symbol b) (vector c) p q x9 = elim x9 [ ]
+      walk_facing w (string b) (plain y) p q x7 = elim x7 [ ]
+      walk_facing w (string b) (pair _ f) p q x9 = elim x9 [ ]
+      walk_facing w (string b) (symbol c) p q x9 = elim x9 [ ]
+      walk_facing w (string b) (vector c) p q x10 = elim x10 [ ]
+      walk_facing w (vector b) (plain y) p q x8 = elim x8 [ ]
+      walk_facing w (vector b) (pair _ f) p q x10 = elim x10 [ ]
+      walk_facing w (vector b) (symbol c) p q x10 = elim x10 [ ]
+      walk_facing w (vector b) (string c) p q x11 = elim x11 [ ]
 
       -- two slots
       slots_facing : (c d : Cell) → cell_at h s ≡ c → cell_at h t ≡ d → Facing c d → Alike h n (slot s) (slot t)
@@ -142,6 +162,26 @@ module _ (h : Heap) where
       slots_facing (string b) (string c) p q (strings e) =
           by_eqv (cells_eqv h (slot s) (slot t) ((λ i. eqv_cells h (p i) (q i)) ∙ same_texts b c e))
       slots_facing (vector b) (vector c) p q (vectors e) = alike_vectors b c p q e
+      slots_facing (plain x) (pair b f) p q x7 = elim x7 [ ]
+      slots_facing (plain x) (symbol c) p q x8 = elim x8 [ ]
+      slots_facing (plain x) (string c) p q x9 = elim x9 [ ]
+      slots_facing (plain x) (vector c) p q x10 = elim x10 [ ]
+      slots_facing (pair a d) (plain y) p q x5 = elim x5 [ ]
+      slots_facing (pair a d) (symbol c) p q x6 = elim x6 [ ]
+      slots_facing (pair a d) (string c) p q x7 = elim x7 [ ]
+      slots_facing (pair a d) (vector c) p q x8 = elim x8 [ ]
+      slots_facing (symbol b) (plain y) p q x6 = elim x6 [ ]
+      slots_facing (symbol b) (pair _ f) p q x8 = elim x8 [ ]
+      slots_facing (symbol b) (string c) p q x8 = elim x8 [ ]
+      slots_facing (symbol b) (vector c) p q x9 = elim x9 [ ]
+      slots_facing (string b) (plain y) p q x7 = elim x7 [ ]
+      slots_facing (string b) (pair _ f) p q x9 = elim x9 [ ]
+      slots_facing (string b) (symbol c) p q x9 = elim x9 [ ]
+      slots_facing (string b) (vector c) p q x10 = elim x10 [ ]
+      slots_facing (vector b) (plain y) p q x8 = elim x8 [ ]
+      slots_facing (vector b) (pair _ f) p q x10 = elim x10 [ ]
+      slots_facing (vector b) (symbol c) p q x10 = elim x10 [ ]
+      slots_facing (vector b) (string c) p q x11 = elim x11 [ ]
 
     -- a scalar, and what shows the same
     scalar_facing : (v w : Value) (x y : Scalar) → shown h v ≡ plain x → shown h w ≡ plain y → Facing (plain x) (plain y) → Listed h v → Alike h n v w
@@ -156,11 +196,19 @@ module _ (h : Heap) where
       where
         go : (c : Cell) → cell_at h s ≡ c → Facing c (plain y) → Alike h n (slot s) (scalar y)
         go (plain x) p f = scalar_facing (slot s) (scalar y) x y p refl f l
+        go (pair _ _) p f = elim f [ ]
+        go (symbol _) p f = elim f [ ]
+        go (string _) p f = elim f [ ]
+        go (vector _) p f = elim f [ ]
     alike_trees (scalar x) w l m trees =
         go (shown h w) refl (facing (plain x) (shown h w) (tree_face h (scalar x) w trees))
       where
         go : (c : Cell) → shown h w ≡ c → Facing (plain x) c → Alike h n (scalar x) w
         go (plain y) p f = scalar_facing (scalar x) w x y refl p f l
+        go (pair _ _) p f = elim f [ ]
+        go (symbol _) p f = elim f [ ]
+        go (string _) p f = elim f [ ]
+        go (vector _) p f = elim f [ ]
 
   agree : Good h → (n : ℕ) → Agree n
   unfolding holds

@@ -10,7 +10,7 @@ use lib.ListN.{length, length-append}
 use Rattle.laws.proofs.Bytes.{all_bytes}
 use Rattle.rules.specs.Refusals.{cut_short}
 use Rattle.rules.specs.Nodes.{Node, Reading, reads, faulty, read_node, write_node}
-use Rattle.rules.specs.Datum.{Datum, Data, atom, pair, vector, def, end, more, nodes, all_nodes, Parsed, parsed, fault, then, of_node, datum_at, data_at, datum_rules}
+use Rattle.rules.specs.Datum.{Datum, Data, end, more, nodes, all_nodes, Parsed, parsed, fault, then, of_node, datum_at, data_at, datum_rules}
 use Rattle.rules.proofs.Nodes.{was_written, write_positive}
 use Rattle.rules.proofs.Datum.{datum_rest, data_count}
 

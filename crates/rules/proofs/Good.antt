@@ -17,7 +17,7 @@ use Rattle.laws.proofs.Tests.{true≢false, both_left, both_right, both_true, ei
 use Rattle.laws.proofs.Sums.{sum_below, length-by-count}
 use Rattle.laws.proofs.Pointwise.{every_all, all_every, every_at, count_past, count_here, count_other, count_append, past_count, get_d_part, length_part}
 use Rattle.rules.specs.Map.{state_of, is_allocated, map_rules}
-use Rattle.rules.specs.Cells.{undefined, nil, eof, void, bool, char, number, Value, slot, scalar, Block, block, Cell, plain, pair, symbol, string, vector}
+use Rattle.rules.specs.Cells.{undefined, nil, eof, void, bool, char, number, Value, scalar, Block, block, Cell, plain, pair, symbol, string, vector}
 use Rattle.rules.specs.Heap.{Heap, Entry, capacity, cell_at, in_use, elements_of, most_growths}
 use Rattle.rules.specs.Layout.{entry_at}
 use Rattle.rules.specs.Sound.{value_allowed, cell_allowed, cells_allowed, capacity_grown, is_free, states_settled, free_once, is_undefined, free_undefined, value_named, named_in_use, names_in_use, text_block, vector_block, lies_in, same_or_disjoint, blocks_sound, entry_sound, entries_differ, heap_sound, sound_rules}

@@ -17,7 +17,7 @@ use Rattle.laws.proofs.Pointwise.{every_same, get_d_part, length_part}
 use Rattle.rules.specs.Numbers.{bits32, most_string, most_name, most_vector}
 use Rattle.rules.specs.Utf8.{utf8}
 use Rattle.rules.specs.Map.{state_of, Free}
-use Rattle.rules.specs.Cells.{Scalar, undefined, nil, eof, void, bool, char, number, slot, scalar, Block, block, Cell, plain, symbol, string}
+use Rattle.rules.specs.Cells.{Scalar, undefined, nil, eof, void, bool, char, number, slot, scalar, Block, block, Cell}
 use Rattle.rules.specs.Nodes.{Atom, Node, node_fits, scalar_fits, text_fits, bytes, nodes_rules}
 use Rattle.rules.specs.Datum.{Datum, Data, end, more, how_many, nodes, all_nodes, node_within, refers_early, early_reference, datum_fits, datum_rules}
 use Rattle.rules.specs.Heap.{Heap, Entry, Given, cell_at, in_use, shown, part_of, text_of, elements_of, name_at, block_after, alloc}

@@ -13,7 +13,7 @@ use Rattle.laws.specs.Basics.{choose, either, join, member, distinct, basics}
 use Rattle.laws.proofs.Tests.{both_left, both_right, either_right, join_append, either_left_false}
 use Rattle.laws.proofs.Members.{eqb_sym, member_end, member_of, add, adds, add_known, add_new, adds_distinct}
 use Rattle.rules.specs.Numbers.{most_labels, most_nodes}
-use Rattle.rules.specs.Cells.{Value, slot, scalar}
+use Rattle.rules.specs.Cells.{Value}
 use Rattle.rules.specs.Nodes.{Atom, Node}
 use Rattle.rules.specs.Datum.{Datum, Data, end, more, how_many, nodes, all_nodes, label_of, within_limits, refers_early, early_reference, datum_rules}
 use Rattle.rules.specs.Heap.{Heap, Entry, found, block_after}

@@ -2,17 +2,17 @@
 -- the order of document 01's table (a read looks at 14 before 12, which a slot that is not in use cannot give). A list that a call is
 -- lent only to read has no value at exit here: it stays as it is. "A refusal answers its number only, and leaves heap and output as
 -- they stood." "On return scratch is all zero, except after 19 or 20, which leave it untouched." Assumes nothing.
-use Rattle.std.specs.Prelude.{◌≡◌, Bool, true, false, not, List, [], ◌∷◌, ◌++◌, ℕ, zero, suc, ◌+◌, eqb, leb, ltb, length, drop, get_or}
+use Rattle.std.specs.Prelude.{◌≡◌, Bool, true, false, not, List, [], ◌∷◌, ◌++◌, ℕ, zero, suc, ◌+◌, eqb, ltb, length, drop, get_or}
 use Rattle.std.proofs.Math.Option.{Option, none, some}
 use Rattle.laws.specs.Basics.{choose, both, every, zeros, basics}
 use Rattle.rules.specs.Numbers.{scratch_words}
-use Rattle.rules.specs.Refusals.{Fault, unknown_kind, bad_bool, bad_char, Refusal, bad_setup, unsound, short_scratch, malformed, over_limit, early_label, no_such_slot, wrong_cell, no_slots, no_room, short_output, Answer, accepted, refused, told, Test, ◌⇒◌, unless, refusals}
+use Rattle.rules.specs.Refusals.{unknown_kind, bad_bool, bad_char, Refusal, bad_setup, unsound, short_scratch, malformed, over_limit, early_label, no_such_slot, wrong_cell, no_slots, no_room, short_output, Answer, accepted, refused, told, ◌⇒◌, unless, refusals}
 use Rattle.rules.specs.Utf8.{scalar_value, utf8_rules}
-use Rattle.rules.specs.Cells.{Scalar, undefined, nil, eof, void, bool, char, number, Value, slot, scalar, Block, block, Cell, plain, pair, symbol, string, vector, is_symbol}
-use Rattle.rules.specs.Datum.{Datum, Parse, good, bad, parse, encode, within_limits, early_reference, datum_rules}
+use Rattle.rules.specs.Cells.{Scalar, undefined, nil, eof, void, bool, char, number, Value, slot, scalar, Block, Cell, plain, pair, symbol, string, vector, is_symbol}
+use Rattle.rules.specs.Datum.{Datum, good, bad, parse, encode, within_limits, early_reference, datum_rules}
 use Rattle.rules.specs.Heap.{Heap, capacity, cell_at, in_use, text_of, with_cell, with_element, fresh, free_count, used_count, heap_rules}
 use Rattle.rules.specs.Map.{map_rules}
-use Rattle.rules.specs.Put.{Put, put_datum, slot_in, slots_short, room_short, put_rules}
+use Rattle.rules.specs.Put.{put_datum, slot_in, slots_short, room_short, put_rules}
 use Rattle.rules.specs.Read.{reading, read_rules}
 use Rattle.rules.specs.Equal.{eqv, Equal, equal_rules}
 use Rattle.rules.specs.Collect.{collect, collect_rules}

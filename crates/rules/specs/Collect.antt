@@ -1,6 +1,6 @@
 -- Document 01, "Slots and growth": reach, and the collection as one call: mark, sweep in rising order, the table, the
 -- packing of both arenas. Assumes nothing.
-use Rattle.std.specs.Prelude.{Bool, true, false, not, ℕ, zero, suc, eqb}
+use Rattle.std.specs.Prelude.{true, false, not, ℕ, zero, suc, eqb}
 use mathlib.Core.List.{List, [], ◌∷◌, ◌++◌, Memᴰ}
 use Rattle.std.proofs.Math.Option.{Option, none, some}
 use lib.ListN.{length}

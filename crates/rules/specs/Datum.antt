@@ -4,7 +4,7 @@ use Rattle.std.specs.Prelude.{Bool, true, false, not, List, [], ◌∷◌, ◌++
 use Rattle.laws.specs.Basics.{both, either, every, join, member, distinct, basics}
 use Rattle.rules.specs.Numbers.{most_nodes, most_labels, most_vector, most_string, most_name}
 use Rattle.rules.specs.Refusals.{Fault, cut_short, left_over}
-use Rattle.rules.specs.Nodes.{Atom, Node, Reading, reads, faulty, write_node, read_node, nodes_rules, node_fits}
+use Rattle.rules.specs.Nodes.{Atom, Node, reads, faulty, write_node, read_node, nodes_rules, node_fits}
 
 mutual
   pub data Datum : Type 0 where

@@ -2,8 +2,8 @@
 use Rattle.std.specs.Prelude.{◌≡◌, Bool, true, false, ◌↔◌, ℕ, zero, suc, eqb, length}
 use mathlib.Core.List.{List, [], ◌∷◌, ◌++◌, Memᴰ}
 use Rattle.std.proofs.Math.Option.{Option, none, some}
-use Rattle.laws.specs.Basics.{choose, both, either, any, same, basics}
-use Rattle.rules.specs.Cells.{Scalar, undefined, nil, eof, void, bool, char, number, Value, slot, scalar, Cell, plain, pair, symbol, string, vector, is_pair, bit}
+use Rattle.laws.specs.Basics.{both, either, any, same, basics}
+use Rattle.rules.specs.Cells.{Scalar, undefined, nil, eof, void, bool, char, number, Value, slot, scalar, Cell, plain, pair, symbol, string, vector, bit}
 use Rattle.rules.specs.Heap.{Heap, cell_at, shown, text_of, elements_of}
 use Rattle.rules.specs.Layout.{value_words, layout_rules}
 

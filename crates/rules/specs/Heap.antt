@@ -1,10 +1,10 @@
 -- The heap: its cells, state map, free list, symbol table and rooms in use; looking things up; allocating and growing.
 -- Document 01, "Slots and growth", and "What a caller is told" on the arenas. Assumes nothing.
 use Rattle.std.specs.Prelude.{Bool, true, false, List, [], ◌∷◌, ◌++◌, reverse, ℕ, zero, suc, ◌+◌, ◌-◌, ◌*◌, ◌/◌, eqb, leb, ltb, length, get_or, set, take, drop, replicate}
-use Rattle.std.proofs.Math.Option.{Option, none, some}
+use Rattle.std.proofs.Math.Option.{Option}
 use Rattle.laws.specs.Basics.{choose, both, either, find, same, rising, zeros, basics}
-use Rattle.rules.specs.Map.{is_allocated, set_state, set_low_bits, Allocated, Free, map_rules}
-use Rattle.rules.specs.Cells.{Scalar, undefined, Value, scalar, Block, block, Cell, plain, pair, symbol, string, vector}
+use Rattle.rules.specs.Map.{is_allocated, set_state, set_low_bits, Allocated, map_rules}
+use Rattle.rules.specs.Cells.{undefined, Value, Block, block, Cell, plain, pair, symbol, string, vector}
 
 -- an entry of the symbol table: the slot it leads to, which holds the name, and the scope
 pub record Entry : Type 0 where

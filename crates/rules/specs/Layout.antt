@@ -10,9 +10,9 @@
 -- `bytes`: the byte arena. `elems`, of words of 64 bits: the element arena, 3 words an element: kind and its two fields.
 -- What is not in use is zero, and so is Undefined: a zero row is an empty one.
 -- Document 01, "Port order": "`Vec`, `HashMap` and `Rc` become flat lent parts and numbers." Assumes nothing.
-use Rattle.std.specs.Prelude.{Bool, true, false, List, [], ◌∷◌, ◌++◌, map, reverse, ℕ, zero, suc, ◌+◌, ◌-◌, ◌*◌, ◌/◌, eqb, length, get_or, take, drop}
+use Rattle.std.specs.Prelude.{Bool, List, [], ◌∷◌, ◌++◌, map, reverse, ℕ, ◌+◌, ◌-◌, ◌*◌, ◌/◌, eqb, length, get_or, take}
 use Rattle.laws.specs.Basics.{choose, both, join, same, rising, zeros, basics}
-use Rattle.rules.specs.Cells.{Scalar, undefined, nil, eof, void, bool, char, number, Value, slot, scalar, Block, block, Cell, plain, pair, symbol, string, vector, bit}
+use Rattle.rules.specs.Cells.{Scalar, undefined, nil, eof, void, bool, char, number, Value, slot, scalar, block, Cell, plain, pair, symbol, string, vector, bit}
 use Rattle.rules.specs.Heap.{Heap, Entry, capacity, cell_at}
 
 -- what a caller lends

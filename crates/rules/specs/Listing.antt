@@ -1,14 +1,14 @@
 -- Document 01, "Sheets": what the program `sheet` prints, and its order of refusals. Assumes nothing.
-use Rattle.std.specs.Prelude.{Bool, true, false, ℕ, zero, suc, ◌+◌, ◌*◌, ltb, length}
+use Rattle.std.specs.Prelude.{true, false, ℕ, ◌+◌, ◌*◌, ltb, length}
 use mathlib.Core.List.{List, [], ◌∷◌, ◌++◌}
-use Rattle.std.proofs.Math.Option.{Option, none, some}
+use Rattle.std.proofs.Math.Option.{none, some}
 use Rattle.laws.specs.Basics.{ascii, join, rising, zeros, basics}
 use Rattle.rules.specs.Numbers.{scratch_words}
-use Rattle.rules.specs.Refusals.{Refusal, Answer, accepted, refused, number_of, refusals}
+use Rattle.rules.specs.Refusals.{accepted, refused, number_of, refusals}
 use Rattle.rules.specs.Cells.{Scalar, undefined, nil, eof, void, bool, char, number, Value, slot, scalar, Cell, plain, pair, symbol, string, vector, bit}
 use Rattle.rules.specs.Map.{map_rules}
 use Rattle.rules.specs.Heap.{Heap, capacity, cell_at, in_use, text_of, elements_of, free_count}
-use Rattle.rules.specs.Layout.{Lent, Rooms, lent_of, heap_of, map_bytes, layout_rules}
+use Rattle.rules.specs.Layout.{Lent, Rooms, heap_of, map_bytes, layout_rules}
 use Rattle.rules.specs.Calls.{setup, put_call, call_rules}
 use Rattle.rules.specs.Text.{decimal, signed, hex, text_rules}
 use Rattle.rules.specs.Sheet.{Sheet, sheet, data_of, sheet_rules}

@@ -1,6 +1,6 @@
 -- Document 01, "Slots and growth": "The state map has two bits a slot, four slots a byte, lowest bits first: Free 0,
 -- Allocated 1, Used 2." Assumes nothing.
-use Rattle.std.specs.Prelude.{Bool, List, [], ◌∷◌, map, ℕ, ◌+◌, ◌*◌, ◌/◌, ◌%◌, ◌^◌, eqb, get_or, set}
+use Rattle.std.specs.Prelude.{Bool, List, map, ℕ, ◌+◌, ◌*◌, ◌/◌, ◌%◌, ◌^◌, eqb, get_or, set}
 use Rattle.laws.specs.Basics.{sum, basics}
 
 abbrev pub Free : ℕ

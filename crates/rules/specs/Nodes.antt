@@ -1,7 +1,7 @@
 -- The lent datum: a list of bytes that holds nodes in prefix order, texts inline. A node is its kind's number, then its
 -- fields, lowest byte first: 4 bytes each, a Number's 8. Document 01, "What a caller is told", row 11: "unknown kind, cut
 -- short, .. Bool not 0 or 1, Char or UTF-8 not allowed". Assumes nothing.
-use Rattle.std.specs.Prelude.{Bool, true, false, List, [], ◌∷◌, ◌++◌, ℕ, zero, suc, leb, ltb, length, get_or, take, drop}
+use Rattle.std.specs.Prelude.{Bool, true, false, List, [], ◌∷◌, ◌++◌, ℕ, zero, suc, ltb, length, get_or, take, drop}
 use Rattle.laws.specs.Basics.{choose, both, every, little, big, basics}
 use Rattle.rules.specs.Numbers.{bits32, bits64}
 use Rattle.rules.specs.Refusals.{Fault, unknown_kind, cut_short, bad_bool, bad_char, bad_utf8}

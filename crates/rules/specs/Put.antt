@@ -1,12 +1,12 @@
 -- Putting a datum, by its tree. Document 01, "Slots and growth". There are no limits here: 16 and 17 look at what a put
 -- would come to. Assumes nothing.
-use Rattle.std.specs.Prelude.{Bool, true, false, List, [], ◌∷◌, ◌++◌, ℕ, zero, suc, ◌+◌, ◌-◌, eqb, ltb, length, replicate}
-use Rattle.std.proofs.Math.Option.{Option, none, some}
+use Rattle.std.specs.Prelude.{Bool, List, [], ◌∷◌, ℕ, suc, ◌+◌, ◌-◌, eqb, ltb, length, replicate}
+use Rattle.std.proofs.Math.Option.{none, some}
 use Rattle.laws.specs.Basics.{choose, find, basics}
-use Rattle.rules.specs.Cells.{Scalar, undefined, Value, scalar, Block, Cell, plain, pair, symbol, string, vector}
+use Rattle.rules.specs.Cells.{undefined, Value, scalar, Cell, plain, pair, symbol, string, vector}
 use Rattle.rules.specs.Nodes.{Atom}
 use Rattle.rules.specs.Datum.{Datum, Data, end, more, how_many}
-use Rattle.rules.specs.Heap.{Heap, Entry, Given, capacity, shown, with_cell, with_element, with_bytes, with_elements, with_entry, block_after, alloc, found, fitting, most_growths, used_count, free_count, heap_rules}
+use Rattle.rules.specs.Heap.{Heap, Given, capacity, shown, with_cell, with_element, with_bytes, with_elements, with_entry, block_after, alloc, found, fitting, most_growths, used_count, free_count, heap_rules}
 
 -- a label, and the slot that its latest definition took
 pub record Label : Type 0 where

@@ -1,12 +1,12 @@
 -- The standard beside the Rust: R7RS small, 6.1, `equal?`: true "if and only if the (possibly infinite) unfoldings of its
 -- arguments into regular trees are equal as ordered trees"; and the data of document 01, "Equality", on which `equal` is
 -- that. Assumes nothing.
-use Rattle.std.specs.Prelude.{◌≡◌, ◌⊎◌, ℕ, length}
+use Rattle.std.specs.Prelude.{◌≡◌, ℕ, length}
 use mathlib.Core.List.{List, [], ◌∷◌, Memᴰ}
 use Rattle.std.proofs.Math.Option.{Option, none, some}
 use Rattle.std.proofs.Math.ListN.{get_elem?}
 use Rattle.rules.specs.Cells.{Scalar, undefined, nil, eof, void, bool, char, number, Value, slot, scalar, Cell, plain, pair, symbol, string, vector}
-use Rattle.rules.specs.Heap.{Heap, Entry, cell_at, shown, text_of, elements_of}
+use Rattle.rules.specs.Heap.{Heap, cell_at, shown, text_of, elements_of}
 
 -- a step down a tree
 pub data Turn : Type 0 where

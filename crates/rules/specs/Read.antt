@@ -1,12 +1,12 @@
 -- Document 01, "Reading back": the walk that gives labels, then the build in the same order. Assumes nothing.
-use Rattle.std.specs.Prelude.{Bool, true, false, List, [], ◌∷◌, ◌++◌, ℕ, zero, suc, ◌+◌, eqb, leb, length}
+use Rattle.std.specs.Prelude.{true, false, List, [], ◌∷◌, ◌++◌, ℕ, zero, suc, eqb, leb, length}
 use Rattle.std.proofs.Math.Option.{Option, none, some}
 use Rattle.laws.specs.Basics.{choose, member, basics}
 use Rattle.rules.specs.Numbers.{most_nodes, most_labels}
 use Rattle.rules.specs.Cells.{Value, slot, scalar, Cell, plain, pair, symbol, string, vector}
 use Rattle.rules.specs.Nodes.{Atom}
 use Rattle.rules.specs.Datum.{Datum, Data, end, more}
-use Rattle.rules.specs.Heap.{Heap, capacity, cell_at, shown, text_of, elements_of}
+use Rattle.rules.specs.Heap.{Heap, capacity, cell_at, text_of, elements_of}
 
 -- ---- the walk
 

@@ -1,13 +1,13 @@
 -- Document 01, "Readings to prove (marked) and to run": the fourteen, as one list of what the definitions give. What they
 -- must give is in proofs/Readings.antt. Assumes nothing.
-use Rattle.std.specs.Prelude.{Bool, true, false, List, [], ◌∷◌, ◌++◌, ℕ, zero, suc, ◌+◌, length, replicate}
+use Rattle.std.specs.Prelude.{Bool, List, [], ◌∷◌, ℕ, zero, suc}
 use Rattle.std.proofs.Math.Option.{Option}
 use Rattle.laws.specs.Basics.{ascii, zeros, basics}
 use Rattle.rules.specs.Refusals.{Answer}
 use Rattle.rules.specs.Map.{Allocated, Used, Free, byte_of, map_rules}
-use Rattle.rules.specs.Cells.{undefined, nil, void, number, Value, slot, scalar, Cell}
+use Rattle.rules.specs.Cells.{nil, void, number, slot, scalar, Cell}
 use Rattle.rules.specs.Nodes.{Atom}
-use Rattle.rules.specs.Datum.{Datum, Data, end, more, encode, datum_rules}
+use Rattle.rules.specs.Datum.{Datum, end, more, encode, datum_rules}
 use Rattle.rules.specs.Heap.{Heap, capacity, cell_at, fresh, heap_rules}
 use Rattle.rules.specs.Put.{put_datum, slot_in, put_rules}
 use Rattle.rules.specs.Read.{reading, read_rules}

@@ -1,6 +1,6 @@
 -- Document 01, "Sheets": the grammar, and what it says is put. A line of the data is one node, written into the datum's
 -- bytes as it stands: whether its fields are allowed is the put's to say (11), not the grammar's. Assumes nothing.
-use Rattle.std.specs.Prelude.{Bool, true, false, List, [], ◌∷◌, ◌++◌, ℕ, zero, suc, ◌+◌, ◌-◌, eqb, length}
+use Rattle.std.specs.Prelude.{true, false, List, [], ◌∷◌, ◌++◌, ℕ, zero, suc, ◌+◌, ◌-◌, eqb}
 use Rattle.std.proofs.Math.Option.{Option, none, some}
 use Rattle.laws.specs.Basics.{ascii, little, same, basics}
 use Rattle.rules.specs.Nodes.{write_text, nodes_rules}

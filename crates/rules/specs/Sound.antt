@@ -1,13 +1,13 @@
 -- Document 01, "A heap is sound when": clause by clause, in the paper's order. Each clause is a test that computes on any
 -- lent lists; `Sound` names them. Assumes nothing.
-use Rattle.std.specs.Prelude.{◌≡◌, Bool, true, false, not, List, [], ◌∷◌, ℕ, ◌+◌, eqb, leb, ltb, length}
+use Rattle.std.specs.Prelude.{◌≡◌, Bool, true, false, not, ℕ, ◌+◌, eqb, leb, ltb, length}
 use Rattle.laws.specs.Basics.{choose, both, either, between, every, every_below, count, same, basics}
 use Rattle.rules.specs.Numbers.{least_slots, most_slots, most_bytes, most_elements, most_vector, most_string, most_name, bits32, chunk_allowed, numbers}
 use Rattle.rules.specs.Utf8.{utf8, scalar_value, utf8_rules}
 use Rattle.rules.specs.Map.{state_of, is_allocated, Free, map_rules}
 use Rattle.rules.specs.Cells.{Scalar, undefined, nil, eof, void, bool, char, number, Value, slot, scalar, Block, block, Cell, plain, pair, symbol, string, vector, is_symbol, same_block}
 use Rattle.rules.specs.Heap.{Heap, Entry, capacity, cell_at, in_use, text_of, elements_of, name_at, reaches, most_growths, heap_rules}
-use Rattle.rules.specs.Layout.{Lent, Rooms, rooms_of, whole_rooms, header, heap_of, lent_of, same_lent, entry_at, layout_rules}
+use Rattle.rules.specs.Layout.{Lent, rooms_of, whole_rooms, header, heap_of, lent_of, same_lent, entry_at, layout_rules}
 
 -- ---- "the numbers above"
 

@@ -1,9 +1,9 @@
 -- Numbers and bytes as a sheet's text has them, both ways. Document 01, "Sheets": "Decimals have no leading zero or plus,
 -- zero has no minus, and a number too big for its field (`num` signed 64 bits, all others unsigned 32) is bad text; hex is
 -- lower case, may be empty." Assumes nothing.
-use Rattle.std.specs.Prelude.{Bool, true, false, not, List, [], ◌∷◌, ◌++◌, ℕ, zero, suc, ◌+◌, ◌-◌, ◌*◌, ◌/◌, ◌%◌, eqb, leb, ltb, length}
+use Rattle.std.specs.Prelude.{true, false, List, [], ◌∷◌, ℕ, zero, suc, ◌+◌, ◌-◌, ◌*◌, ◌/◌, ◌%◌, eqb, leb, ltb}
 use Rattle.std.proofs.Math.Option.{Option, none, some}
-use Rattle.laws.specs.Basics.{choose, both, either, between, every, join, basics}
+use Rattle.laws.specs.Basics.{choose, between, join, basics}
 use Rattle.rules.specs.Numbers.{bits32, bits64}
 
 -- ---- writing

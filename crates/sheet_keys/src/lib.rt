@@ -1,5 +1,7 @@
 // Lines and keys of a sheet's text. Document 01, "Sheets": "A sheet is key=value lines ending in LF, in this order: `chunk=`,
 // `slots=`, the data, `end=`."
+#![tactic(auto)]
+
 ghost use Rattle.std.specs.Prelude.{◌≡◌, drop};
 ghost use Rattle.laws.specs.Basics.{ascii, same};
 ghost use Rattle.rules.specs.Sheet as rules;
@@ -7,7 +9,7 @@ ghost use Rattle.text_decimals.specs.Reads.{shown};
 ghost use Rattle.sheet_keys.specs.Places.{found, first_from, Keyed};
 
 // A place in a text.
-#[derive(Drop)]
+#[derive(Clone, Copy)]
 pub enum Found {
     None,
     At(usize),

@@ -1,5 +1,5 @@
 -- The forms of a line, by their numbers in the rules' list. Assumes nothing.
-use Rattle.std.specs.Prelude.{◌≡◌, List, [], ◌∷◌, ℕ, ◌+◌, ◌-◌, ◌≤◌, ◌<◌, length, get_or, take, drop}
+use Rattle.std.specs.Prelude.{◌≡◌, List, [], ◌∷◌, ℕ, ◌+◌, ◌≤◌, ◌<◌, length, get_or, take, drop}
 use Rattle.std.proofs.Math.Option.{Option, none}
 use Rattle.laws.specs.Basics.{little}
 use Rattle.rules.specs.Sheet.{Line, Form, then_read, hexed, forms, read_form}

@@ -1,6 +1,8 @@
 // The lines of nodes. Document 01, "Sheets": "Each node is a line in prefix order: `bool=0`, `char=N`, `num=N`, `str=HEX`, `sym=HEX`,
 // `ident=SCOPE:HEX`, `nil=`, `eof=`, `undef=`, `void=`, `pair=` (car, cdr follow), `vec=N` (N data follow), `def=L` (one follows),
 // `ref=L`." A line is written out as the bytes of its node; nothing is written where it is bad.
+#![tactic(auto)]
+
 ghost use Rattle.std.specs.Prelude.{◌+◌, ◌≤◌, ◌<◌, length};
 ghost use Rattle.rules.specs.Sheet as rules;
 ghost use Rattle.sheet_keys.specs.Places.{Keyed};
@@ -8,7 +10,7 @@ ghost use Rattle.sheet_nodes.specs.Written.{Lined};
 ghost use Rattle.sheet_lines.specs.Lines.{key_at, FormRead, form_at, scoped_at};
 
 // A line's form by its number in the rules' list, and where its value begins.
-#[derive(Drop)]
+#[derive(Clone, Copy)]
 enum Form {
     None,
     Of(usize, usize),

@@ -1,6 +1,8 @@
 // The line of a slot in the listing that the program `sheet` prints. Document 01, "Sheets": "Cells print as `kind:` and the sheet's
 // text, nil, eof, undef and void bare; `sym:HEX`; `vec:` and comma-joined elements, a slot as `@N`." It is written from the start
 // of a lent buffer, and its length answered.
+#![tactic(auto)]
+
 ghost use Rattle.std.specs.Prelude.{◌≡◌, true, ◌∷◌, ◌++◌, map, ◌+◌, ◌*◌, ◌≤◌, length};
 ghost use Rattle.laws.specs.Basics.{ascii};
 ghost use Rattle.rules.specs.Layout.{heap_of};

@@ -1,6 +1,8 @@
 // The value of a node's line, written out as the bytes of its node; nothing is written where it is bad. Document 01, "Sheets":
 // "Decimals have no leading zero or plus, zero has no minus, and a number too big for its field .. is bad text; hex is lower case,
 // may be empty", "`vec=N` (N data follow), `def=L` (one follows)".
+#![tactic(auto)]
+
 ghost use Rattle.std.specs.Prelude.{◌≡◌, true, ◌∷◌, [], ◌+◌, ◌/◌, ◌≤◌, ◌<◌, length};
 ghost use Rattle.laws.specs.Basics.{little};
 ghost use Rattle.rules.specs.Sheet as rules;
@@ -8,7 +10,7 @@ ghost use Rattle.text_numbers.specs.Answers.{is_hex, unhexed, written};
 ghost use Rattle.sheet_nodes.specs.Written.{Lined, TextWritten, follow_of};
 
 // The bytes that a node line was written out as, and how many data follow.
-#[derive(Drop)]
+#[derive(Clone, Copy)]
 pub enum NodeLine {
     Bad,
     Good(usize, u64),

@@ -1,33 +1,35 @@
 // The parse of a whole sheet. Document 01, "Sheets": "A sheet is key=value lines ending in LF, in this order: `chunk=`,
 // `slots=`, the data, `end=`. .. There may be no data." The data's bytes are written one behind the other, and where each
 // ends is kept, so that a datum can be taken as a part of those bytes. Of bad text nothing is left: both rooms are zero.
+#![tactic(auto)]
+
 ghost use Rattle.std.specs.Prelude.{◌≡◌, ◌+◌, ◌*◌, ◌-◌, ◌≤◌, ◌<◌, length};
 ghost use Rattle.sheet_parse.specs.Parsed.{Parsed, place_before, Within, part_of};
 ghost use Rattle.sheet_parse.specs.Steps.{HeaderRead, FrontRead, line_told, told_at, LineRead, Roomy, stepped, stepped_ends, finished, finished_ends, NodesRead};
 
 // A sheet's chunk, slots, and how many data.
-#[derive(Drop)]
+#[derive(Clone, Copy)]
 pub enum Sheet {
     Bad,
     Good(u64, u64, usize),
 }
 
 // A header line's number, and where the next line begins.
-#[derive(Drop)]
+#[derive(Clone, Copy)]
 enum Header {
     Bad,
     Good(u64, usize),
 }
 
 // Chunk and slots, and where the data begin.
-#[derive(Drop)]
+#[derive(Clone, Copy)]
 enum Front {
     Bad,
     Good(u64, u64, usize),
 }
 
 // A line of the data: a node's size, how many data follow it, and where the next line begins; or the sheet's last line.
-#[derive(Drop)]
+#[derive(Clone, Copy)]
 enum Reading {
     Bad,
     Last,
@@ -35,7 +37,7 @@ enum Reading {
 }
 
 // How many data, and how many bytes they are.
-#[derive(Drop)]
+#[derive(Clone, Copy)]
 enum Nodes {
     Bad,
     Good(usize, usize),
@@ -43,7 +45,7 @@ enum Nodes {
 
 // How far the data are read: the place in the text, the bytes written, where the datum begun begins in them, how many data
 // it still wants, and how many data have ended.
-#[derive(Drop)]
+#[derive(Clone, Copy)]
 struct Progress {
     at: usize,
     used: usize,

@@ -1,6 +1,8 @@
 // The listing's parts and its lines of counts. Document 01, "Sheets": "One `root` a datum; `free` counts the list; `freelist` has
 // commas, next slot first, empty if none"; "On a refusal it prints only `refused=N`". A line is written from the start of a lent
 // buffer, and its length answered. No line of a sound heap is longer than 32,768 bytes.
+#![tactic(auto)]
+
 ghost use Rattle.std.specs.Prelude.{List, [], ◌∷◌, ◌++◌, map, ℕ, ◌+◌, ◌≤◌, ◌<◌, length, get_or};
 ghost use Rattle.laws.specs.Basics.{ascii};
 ghost use Rattle.rules.specs.Heap.{capacity, free_count};

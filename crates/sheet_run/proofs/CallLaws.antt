@@ -9,13 +9,13 @@ use borrow.Author.Tests.{lt-ltb, le-ltb}
 use lib.Dec.{eqb, leb, ltb}
 use lib.ListN.{length, take}
 use lib.Seq.{length-take-le, take_at}
-use Rattle.laws.specs.Basics.{both, between, zeros}
+use Rattle.laws.specs.Basics.{both, between}
 use Rattle.laws.proofs.Lists.{length-zeros}
-use Rattle.rules.specs.Numbers.{scratch_words, least_slots, most_slots, most_bytes, most_elements, chunk_allowed}
+use Rattle.rules.specs.Numbers.{least_slots, most_slots, most_bytes, most_elements, chunk_allowed}
 use Rattle.rules.specs.Refusals.{Answer, accepted, refused, bad_setup, number_of, refusals}
 use Rattle.rules.specs.Heap.{fresh}
 use Rattle.rules.specs.Layout.{Lent, Rooms, rooms_of, heap_of, lent_of, map_bytes, layout_rules}
-use Rattle.rules.specs.Sound.{sound, setup_numbers, sound_rules}
+use Rattle.rules.specs.Sound.{sound, setup_numbers}
 use Rattle.rules.specs.Sheet as rules
 use Rattle.rules.specs.Calls.{SetUp, setup}
 use Rattle.rules.specs.Listing.{sheet_slots, sheet_rooms, blank, listing, refusal_line, put_each, run_sheet, printed}

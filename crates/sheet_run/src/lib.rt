@@ -1,6 +1,8 @@
 // A sheet run: its text parsed, a heap set up, each datum put. Document 01, "Sheets": the program `sheet` "puts each datum
 // and prints. Its order: over 32 KiB is 12, bad text 11, more than 192 slots 10, then the calls. On a refusal it prints only
 // `refused=N`." What is printed is told by the answer: a refusal's line, or the listing of the roots and the heap left here.
+#![tactic(auto)]
+
 ghost use Rattle.std.specs.Prelude.{◌≡◌, List, ℕ, ◌≤◌, ◌<◌, length, set};
 ghost use Rattle.rules.specs.Refusals.{told};
 ghost use Rattle.doors.specs.Answers.{put_answer};
@@ -8,14 +10,14 @@ ghost use Rattle.heap_sound_rows.specs.Rows.{lists};
 ghost use Rattle.sheet_run.specs.Running.{slot_answered, DataAt, Begun, EachPut, Lends, FilledIn, RoomsLent, RanSo};
 
 // What putting the data comes to: all were put, or the refusal's number.
-#[derive(Drop)]
+#[derive(Clone, Copy)]
 enum Puts {
     Done,
     Refused(u64),
 }
 
 // What a sheet comes to: a refusal's number, or a heap of so many lent slots, and how many roots.
-#[derive(Drop)]
+#[derive(Clone, Copy)]
 pub enum Ran {
     Refused(u64),
     Listed(usize, usize),

@@ -1,5 +1,7 @@
 // A value printed as the listing shows it, a scalar or a vector's element. Document 01, "Sheets": "Cells print as `kind:` and the
 // sheet's text, nil, eof, undef and void bare", "a slot as `@N`".
+#![tactic(auto)]
+
 ghost use Rattle.std.specs.Prelude.{◌++◌, ◌+◌, ◌≤◌, length};
 ghost use Rattle.laws.specs.Basics.{ascii};
 ghost use Rattle.rules.specs.Text.{signed};

@@ -1,11 +1,13 @@
 // Decimals of a sheet's text, read. Document 01, "Sheets": "Decimals have no leading zero or plus, zero has no minus, and a number too
 // big for its field (`num` signed 64 bits, all others unsigned 32) is bad text". A signed number is kept as its 64 bits.
+#![tactic(auto)]
+
 ghost use Rattle.std.specs.Prelude.{◌≡◌, ◌≤◌, ◌<◌};
 ghost use Rattle.rules.specs.Text as rules;
 ghost use Rattle.text_decimals.specs.Reads.{shown, Step};
 
 // A number that was read.
-#[derive(Drop)]
+#[derive(Clone, Copy)]
 pub enum Number {
     Bad,
     Good(u64),

@@ -1,11 +1,13 @@
 // Numbers and bytes written as text, and hex read. Document 01, "Sheets": "hex is lower case, may be empty"; decimals are written as
 // they are read. A signed number is kept as its 64 bits.
+#![tactic(auto)]
+
 ghost use Rattle.std.specs.Prelude.{◌≡◌, true, ◌+◌, ◌*◌, ◌/◌, ◌≤◌, ◌<◌, length};
 ghost use Rattle.rules.specs.Text as rules;
 ghost use Rattle.text_numbers.specs.Answers.{hex_shown, pair_shown, pair_value, is_hex, unhexed, written, Unhexed, Printed};
 
 // How many bytes were read of a hex text.
-#[derive(Drop)]
+#[derive(Clone, Copy)]
 pub enum Hexed {
     Bad,
     Good(usize),

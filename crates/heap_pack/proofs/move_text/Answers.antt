@@ -1,0 +1,16 @@
+-- `heap_pack::move_text`: a new block is written to the tail, a known one is where it went. Assumes nothing.
+use native.Mathlib.Omega.{arith}
+use Rattle.heap_pack.proofs.MoveLaws.{text_known, text_new, part_fits}
+use Rattle.heap_pack.proofs.move_text.Goals as goal
+
+pub overflow_cast-known : goal.overflow_cast-known
+overflow_cast-known c = record { fits = omega (arith, c.type_inv.table c.args.place, c.type_inv.table c.args.place) }
+
+pub returns-then-known-gt0 : goal.returns-then-known-gt0
+returns-then-known-gt0 c = text_known c.args.bytes.now c.args.old.now c.args.table.now c.args.at c.args.place c.args.size c.if-known-gt0.true
+
+pub write_bytes-requires : goal.write_bytes-requires
+write_bytes-requires c = part_fits c.args.bytes.now c.args.old.now c.args.at c.args.place c.args.size c.requires.inside (c.requires.fits (omega (arith, c.if-known-gt0.false)))
+
+pub returns : goal.returns
+returns c = text_new c.args.bytes.now c.args.old.now c.args.table.now c.args.at c.args.place c.args.size _ (omega (arith, c.if-known-gt0.false)) c.requires.inside (c.requires.fits (omega (arith, c.if-known-gt0.false))) c.write_bytes.ensures
