@@ -3,7 +3,7 @@
 # stack, and the times of the soundness check and of put. The last line is 'N passed, M failed'.
 set -eu
 cd "$(dirname "$0")/.."
-rt staticlib c_doors
+host/library.sh
 mkdir -p target/host
 "${CC:-cc}" -std=c11 -O2 -Wall -Wextra -Werror -Iinclude host/deep.c target/staticlib/libc_doors.a -lpthread -o target/host/deep
 target/host/deep
