@@ -1,7 +1,15 @@
 // Runs the check of a datum on stored cases. A case is a line: the datum's bytes in hex. The answer is a line: `ok`, or
 // `refused=` with the refusal's number; for 11 the fault and the node follow. What the cases are, and their answers, is
 // made by tools/check_cases.py.
+#![tactic(auto)]
+
 ghost use Rattle.std.specs.Prelude.{◌+◌, ◌*◌, ◌<◌, ◌≤◌, length};
+
+use std::io;
+use std::io::Write;
+
+// at most so many bytes are read
+const INPUT: usize = 131072;
 
 // A digit of lower-case hex; 16 for any other byte.
 fn digit(byte: u8) -> u8
@@ -37,65 +45,61 @@ fn unhex(text: &[u8], bytes: &mut [u8]) -> usize
     n
 }
 
-fn say_fault(f: leaf_nodes::Fault) {
+fn say_fault(f: leaf_nodes::Fault, out: &mut impl Write) -> io::Result<()> {
     match f {
-        leaf_nodes::Fault::UnknownKind => io::write_all(1, b" unknown_kind "),
-        leaf_nodes::Fault::CutShort => io::write_all(1, b" cut-short "),
-        leaf_nodes::Fault::LeftOver => io::write_all(1, b" left-over "),
-        leaf_nodes::Fault::BadBool => io::write_all(1, b" bad_bool "),
-        leaf_nodes::Fault::BadChar => io::write_all(1, b" bad_char "),
-        leaf_nodes::Fault::BadUtf8 => io::write_all(1, b" bad_utf8 "),
-    };
-}
-
-fn say_malformed(f: leaf_nodes::Fault, node: usize) {
-    io::write_all(1, b"refused=11");
-    say_fault(f);
-    io::print_decimal(1, node as u64);
-    io::write_all(1, b"\n");
-}
-
-fn say(c: heap_check::Checked) {
-    match c {
-        heap_check::Checked::Good => {
-            io::write_all(1, b"ok\n");
-        }
-        heap_check::Checked::Malformed(f, node) => say_malformed(f, node),
-        heap_check::Checked::OverLimit => {
-            io::write_all(1, b"refused=12\n");
-        }
-        heap_check::Checked::EarlyLabel => {
-            io::write_all(1, b"refused=13\n");
-        }
+        leaf_nodes::Fault::UnknownKind => out.write_all(b" unknown-kind "),
+        leaf_nodes::Fault::CutShort => out.write_all(b" cut-short "),
+        leaf_nodes::Fault::LeftOver => out.write_all(b" left-over "),
+        leaf_nodes::Fault::BadBool => out.write_all(b" bad-bool "),
+        leaf_nodes::Fault::BadChar => out.write_all(b" bad-char "),
+        leaf_nodes::Fault::BadUtf8 => out.write_all(b" bad-utf8 "),
     }
 }
 
-// Answers the case that the text begins with, and says how many bytes of it that was.
-fn answer(text: &[u8], bytes: &mut [u8]) -> usize
-    ensures { result ≤ length text.now }
+fn say_malformed(f: leaf_nodes::Fault, node: usize, out: &mut impl Write) -> io::Result<()> {
+    out.write_all(b"refused=11")?;
+    say_fault(f, out)?;
+    writeln!(out, "{node}")
+}
+
+fn say(c: heap_check::Checked, out: &mut impl Write) -> io::Result<()> {
+    match c {
+        heap_check::Checked::Good => out.write_all(b"ok\n"),
+        heap_check::Checked::Malformed(f, node) => say_malformed(f, node, out),
+        heap_check::Checked::OverLimit => out.write_all(b"refused=12\n"),
+        heap_check::Checked::EarlyLabel => out.write_all(b"refused=13\n"),
+    }
+}
+
+// The answer to the case that the text begins with, and how many bytes of it that was.
+fn answer(text: &[u8], bytes: &mut [u8]) -> (heap_check::Checked, usize)
+    ensures { result.1 ≤ length text.now }
 {
     let n = unhex(text, bytes);
-    say(heap_check::check(&bytes[..n]));
-    2 * n
+    (heap_check::check(&bytes[..n]), 2 * n)
 }
 
 // Answers one case after the other. Each ends in a line's end.
-fn run(text: &[u8], bytes: &mut [u8]) {
+fn run(text: &[u8], bytes: &mut [u8], out: &mut impl Write) -> io::Result<()> {
     let mut at = 0;
     while at < text.len() {
-        let n = answer(&text[at..], bytes);
+        let (checked, n) = answer(&text[at..], bytes);
+        say(checked, out)?;
         at += n;
         if at < text.len() {
             at += 1;
         } else {
-            return;
+            return Ok(());
         }
     }
+    Ok(())
 }
 
-fn main() {
-    let mut space = [0u8; 131072];
-    let n = io::read_full(0, &mut space);
+fn main(rt: HostRuntime) -> io::Result<()> {
+    let mut space = [0u8; INPUT];
+    let n = whole_input::read_full(&mut rt.reader(), &mut space)?;
+    let mut out = io::writer(&rt);
     let mut bytes = [0u8; 8192];
-    run(&space[..n], &mut bytes);
+    run(&space[..n], &mut bytes, &mut out)?;
+    out.flush()
 }

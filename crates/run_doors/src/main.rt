@@ -2,7 +2,15 @@
 // in between. A case is a line "O IIIII VVVVVVVVVVVVVVVV HEX": what is done, an index, a value, and a datum's bytes, all in hex.
 // The answer is a line: what the calls tell, and a sum over the lent lists. Numbers that a call may write are 777 before it.
 // What the cases are, and their answers, is made by tools/doors_cases.py.
+#![tactic(auto)]
+
 ghost use Rattle.std.specs.Prelude.{◌≡◌, ◌+◌, ◌*◌, ◌≤◌, length};
+
+use std::io;
+use std::io::Write;
+
+// at most so many bytes are read
+const INPUT: usize = 262144;
 
 // room for 4,097 slots, 65,537 bytes and 16,385 elements, so that each most can be passed
 const WORDS: usize = 32784;
@@ -16,7 +24,7 @@ const ELEMENTS: usize = 49156;
 const SCRATCH: usize = 32896;
 
 // how much of each list is lent
-#[derive(Drop)]
+#[derive(Clone, Copy)]
 struct Lent {
     words: usize,
     map: usize,
@@ -42,10 +50,8 @@ fn wide(n: u8) -> u64 {
 
 fn number(digits: &[u8]) -> u64 {
     let mut n: u64 = 0;
-    let mut i = 0;
-    while i < digits.len() {
-        n = (n << 4) | wide(digit(digits[i]));
-        i += 1;
+    for d in digits {
+        n = (n << 4) | wide(digit(*d));
     }
     n
 }
@@ -65,48 +71,48 @@ fn unhex(text: &[u8], bytes: &mut [u8]) -> usize
     n
 }
 
-fn print(n: u64) {
-    io::print_decimal(1, n);
-    io::write_all(1, b" ");
+fn print(n: u64, out: &mut impl Write) -> io::Result<()> {
+    write!(out, "{n} ")
 }
 
-fn print_bytes(list: &[u8]) {
-    let mut i = 0;
-    while i < list.len() {
-        print(wide(list[i]));
-        i += 1;
+fn print_bytes(list: &[u8], out: &mut impl Write) -> io::Result<()> {
+    for n in list {
+        print(wide(*n), out)?;
     }
+    Ok(())
 }
 
 fn mixed(sum: u64, n: u64) -> u64 {
-    std::num::wrapping_add_u64((sum << 7) | (sum >> 57), n)
+    ((sum << 7) | (sum >> 57)).wrapping_add(n)
 }
 
 fn sum_words(list: &[u64], start: u64) -> u64 {
     let mut sum = start;
-    let mut i = 0;
-    while i < list.len() {
-        sum = mixed(sum, list[i]);
-        i += 1;
+    for n in list {
+        sum = mixed(sum, *n);
     }
     sum
 }
 
 fn sum_bytes(list: &[u8], start: u64) -> u64 {
     let mut sum = start;
-    let mut i = 0;
-    while i < list.len() {
-        sum = mixed(sum, wide(list[i]));
-        i += 1;
+    for n in list {
+        sum = mixed(sum, wide(*n));
     }
     sum
 }
 
-fn show(words: &[u64], map: &[u8], bytes: &[u8], elems: &[u64], scratch: &[u64]) {
+fn show(
+    words: &[u64],
+    map: &[u8],
+    bytes: &[u8],
+    elems: &[u64],
+    scratch: &[u64],
+    out: &mut impl Write,
+) -> io::Result<()> {
     let sum = sum_bytes(bytes, sum_bytes(map, sum_words(words, 0)));
-    io::write_all(1, b"| ");
-    io::print_decimal(1, sum_words(scratch, sum_words(elems, sum)));
-    io::write_all(1, b"\n");
+    let all = sum_words(scratch, sum_words(elems, sum));
+    writeln!(out, "| {all}")
 }
 
 fn least(n: u64, most: usize) -> usize
@@ -175,43 +181,83 @@ fn stores(
 }
 
 // "s": setup with a chunk.
-fn setup(words: &mut [u64], map: &mut [u8], bytes: &mut [u8], elems: &mut [u64], line: &[u8])
+fn setup(
+    words: &mut [u64],
+    map: &mut [u8],
+    bytes: &mut [u8],
+    elems: &mut [u64],
+    line: &[u8],
+    out: &mut impl Write,
+) -> io::Result<()>
     requires { 24 ≤ length line.now }
 {
     if line[0] == b's' {
-        print(c_doors::talvongre_setup(words, map, bytes, elems, number(&line[8..24])) as u64);
+        let n = c_doors::talvongre_setup(words, map, bytes, elems, number(&line[8..24]));
+        print(n as u64, out)?;
     }
+    Ok(())
 }
 
-fn counts(words: &[u64], map: &[u8], bytes: &[u8], elems: &[u64]) {
+fn counts(
+    words: &[u64],
+    map: &[u8],
+    bytes: &[u8],
+    elems: &[u64],
+    out: &mut impl Write,
+) -> io::Result<()> {
     let mut n = 777;
-    print(c_doors::talvongre_capacity(words, map, bytes, elems, &mut n) as u64);
-    print(n);
+    print(
+        c_doors::talvongre_capacity(words, map, bytes, elems, &mut n) as u64,
+        out,
+    )?;
+    print(n, out)?;
     n = 777;
-    print(c_doors::talvongre_free(words, map, bytes, elems, &mut n) as u64);
-    print(n);
+    print(
+        c_doors::talvongre_free(words, map, bytes, elems, &mut n) as u64,
+        out,
+    )?;
+    print(n, out)?;
     n = 777;
-    print(c_doors::talvongre_used(words, map, bytes, elems, &mut n) as u64);
-    print(n);
+    print(
+        c_doors::talvongre_used(words, map, bytes, elems, &mut n) as u64,
+        out,
+    )?;
+    print(n, out)
 }
 
-fn text(words: &[u64], map: &[u8], bytes: &[u8], elems: &[u64], slot: u64) {
+fn text(
+    words: &[u64],
+    map: &[u8],
+    bytes: &[u8],
+    elems: &[u64],
+    slot: u64,
+    out: &mut impl Write,
+) -> io::Result<()> {
     let mut place = 777;
     let mut size = 777;
-    print(c_doors::talvongre_text(words, map, bytes, elems, slot, &mut place, &mut size) as u64);
-    print(place);
-    print(size);
-    print_bytes(doors::text(words, map, bytes, elems, slot));
+    let n = c_doors::talvongre_text(words, map, bytes, elems, slot, &mut place, &mut size);
+    print(n as u64, out)?;
+    print(place, out)?;
+    print(size, out)?;
+    print_bytes(doors::text(words, map, bytes, elems, slot), out)
 }
 
 // "q": every count, and the text of a slot; the put of no datum follows.
-fn ask(words: &[u64], map: &[u8], bytes: &[u8], elems: &[u64], line: &[u8])
+fn ask(
+    words: &[u64],
+    map: &[u8],
+    bytes: &[u8],
+    elems: &[u64],
+    line: &[u8],
+    out: &mut impl Write,
+) -> io::Result<()>
     requires { 24 ≤ length line.now }
 {
     if line[0] == b'q' {
-        counts(words, map, bytes, elems);
-        text(words, map, bytes, elems, number(&line[8..24]));
+        counts(words, map, bytes, elems, out)?;
+        text(words, map, bytes, elems, number(&line[8..24]), out)?;
     }
+    Ok(())
 }
 
 fn puts(op: u8) -> bool {
@@ -226,17 +272,19 @@ fn put(
     elems: &mut [u64],
     scratch: &mut [u64],
     line: &[u8],
-)
+    out: &mut impl Write,
+) -> io::Result<()>
     requires { 24 ≤ length line.now }
 {
     if !puts(line[0]) {
-        return;
+        return Ok(());
     }
     let mut datum = [0u8; 8192];
     let n = unhex(&line[24..], &mut datum);
     let mut slot = 777;
-    print(c_doors::talvongre_put(words, map, bytes, elems, scratch, &datum[..n], &mut slot) as u64);
-    print(slot);
+    let k = c_doors::talvongre_put(words, map, bytes, elems, scratch, &datum[..n], &mut slot);
+    print(k as u64, out)?;
+    print(slot, out)
 }
 
 // The calls on what is lent.
@@ -247,13 +295,14 @@ fn calls(
     elems: &mut [u64],
     scratch: &mut [u64],
     line: &[u8],
-)
+    out: &mut impl Write,
+) -> io::Result<()>
     requires { 24 ≤ length line.now }
 {
-    setup(words, map, bytes, elems, line);
-    ask(words, map, bytes, elems, line);
-    put(words, map, bytes, elems, scratch, line);
-    show(words, map, bytes, elems, scratch);
+    setup(words, map, bytes, elems, line, out)?;
+    ask(words, map, bytes, elems, line, out)?;
+    put(words, map, bytes, elems, scratch, line, out)?;
+    show(words, map, bytes, elems, scratch, out)
 }
 
 // One line, with so much of each list lent; a line too short is left out.
@@ -265,9 +314,10 @@ fn step(
     scratch: &mut [u64],
     l: Lent,
     line: &[u8],
-) {
+    out: &mut impl Write,
+) -> io::Result<()> {
     if line.len() < 24 {
-        return;
+        return Ok(());
     }
     stores(words, map, bytes, elems, scratch, line);
     let w = least(l.words as u64, words.len());
@@ -282,7 +332,8 @@ fn step(
         &mut elems[..e],
         &mut scratch[..s],
         line,
-    );
+        out,
+    )
 }
 
 // How long the line is that the text begins with, with its end.
@@ -308,7 +359,8 @@ fn run(
     elems: &mut [u64],
     scratch: &mut [u64],
     text: &[u8],
-) {
+    out: &mut impl Write,
+) -> io::Result<()> {
     let mut l = Lent {
         words: 0,
         map: 0,
@@ -320,14 +372,16 @@ fn run(
     while at < text.len() {
         let end = at + line_length(&text[at..]);
         l = lengths(l, &text[at..end]);
-        step(words, map, bytes, elems, scratch, l, &text[at..end]);
+        step(words, map, bytes, elems, scratch, l, &text[at..end], out)?;
         at = end;
     }
+    Ok(())
 }
 
-fn main() {
-    let mut space = [0u8; 262144];
-    let n = io::read_full(0, &mut space);
+fn main(rt: HostRuntime) -> io::Result<()> {
+    let mut space = [0u8; INPUT];
+    let n = whole_input::read_full(&mut rt.reader(), &mut space)?;
+    let mut out = io::writer(&rt);
     let mut words = [0u64; WORDS];
     let mut map = [0u8; MAP];
     let mut bytes = [0u8; BYTES];
@@ -340,5 +394,7 @@ fn main() {
         &mut elems,
         &mut scratch,
         &space[..n],
-    );
+        &mut out,
+    )?;
+    out.flush()
 }

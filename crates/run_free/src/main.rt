@@ -2,9 +2,17 @@
 // the sizes that the heap grows to, then "ends" with the size at which growth ends and whether growth reaches that size
 // and the lent slots; where at most 24 slots are lent, a second line has all slots in the order in which they are given.
 // What the cases are, and their answers, is made by tools/free_cases.py.
+#![tactic(auto)]
+
 ghost use Rattle.std.specs.Prelude.{◌≡◌, ◌+◌, ◌*◌, ◌%◌, ◌≤◌, length};
 ghost use Rattle.laws.specs.Basics.{zeros};
 ghost use Rattle.rules.specs.Layout.{map_bytes};
+
+use std::io;
+use std::io::Write;
+
+// at most so many bytes are read
+const INPUT: usize = 4096;
 
 const WIDTH: usize = 10;
 
@@ -29,44 +37,47 @@ fn number(input: &[u8], at: usize) -> usize
         + digit(input[at + 3])
 }
 
-fn print(n: usize) {
-    io::print_decimal(1, n as u64);
-    io::write_all(1, b" ");
+fn print(n: usize, out: &mut impl Write) -> io::Result<()> {
+    write!(out, "{n} ")
 }
 
-fn flag(is: bool) {
+fn flag(is: bool, out: &mut impl Write) -> io::Result<()> {
     if is {
-        io::write_all(1, b"1 ");
+        out.write_all(b"1 ")
     } else {
-        io::write_all(1, b"0 ");
+        out.write_all(b"0 ")
     }
 }
 
-fn sizes(chunk: usize, lent: usize)
+fn sizes(chunk: usize, lent: usize, out: &mut impl Write) -> io::Result<()>
     requires le_chunk { 4 ≤ chunk }
     requires chunk_le_lent { chunk ≤ lent }
     requires lent_bound { lent ≤ 4096 }
 {
     let mut size = chunk;
-    print(size);
-    let mut left: usize = 16;
-    while 0 < left {
+    print(size, out)?;
+    for _ in 0..16u8 {
         let next = leaf_free::grown(chunk, size);
         if next <= lent {
-            print(next);
+            print(next, out)?;
             size = next;
         }
-        left -= 1;
     }
-    io::write_all(1, b"ends ");
-    print(leaf_free::fitting(chunk, lent, chunk));
-    flag(leaf_free::reaches(chunk, size));
-    flag(leaf_free::reaches(chunk, lent));
-    io::write_all(1, b"\n");
+    out.write_all(b"ends ")?;
+    print(leaf_free::fitting(chunk, lent, chunk), out)?;
+    flag(leaf_free::reaches(chunk, size), out)?;
+    flag(leaf_free::reaches(chunk, lent), out)?;
+    out.write_all(b"\n")
 }
 
 // Every slot that a heap of these lent slots can give.
-fn slots(words: &mut [u64], map: &mut [u8], chunk: usize, lent: usize)
+fn slots(
+    words: &mut [u64],
+    map: &mut [u8],
+    chunk: usize,
+    lent: usize,
+    out: &mut impl Write,
+) -> io::Result<()>
     requires words_value { words.old ≡ zeros (8 + 8 * lent) }
     requires map_value { map.old ≡ zeros (map_bytes lent) }
     requires le_chunk { 4 ≤ chunk }
@@ -78,15 +89,15 @@ fn slots(words: &mut [u64], map: &mut [u8], chunk: usize, lent: usize)
     let mut left = leaf_free::fitting(chunk, lent, chunk);
     while 0 < left {
         let slot = leaf_free::alloc(words, map);
-        print(slot);
+        print(slot, out)?;
         left -= 1;
     }
-    io::write_all(1, b"\n");
+    out.write_all(b"\n")
 }
 
-fn answer(chunk: usize, lent: usize) {
+fn answer(chunk: usize, lent: usize, out: &mut impl Write) -> io::Result<()> {
     if 4 <= chunk && chunk % 4 == 0 && chunk <= lent && lent <= 4096 {
-        sizes(chunk, lent);
+        sizes(chunk, lent, out)?;
         if lent <= MOST {
             let mut words = [0u64; 200];
             let mut map = [0u8; 6];
@@ -95,21 +106,24 @@ fn answer(chunk: usize, lent: usize) {
                 &mut map[..(lent + 3) / 4],
                 chunk,
                 lent,
-            );
+                out,
+            )?;
         }
     }
+    Ok(())
 }
 
-fn run(input: &[u8]) {
-    let mut at = 0;
-    while WIDTH <= input.len() - at {
-        answer(number(input, at), number(input, at + 5));
-        at += WIDTH;
+fn run(input: &[u8], out: &mut impl Write) -> io::Result<()> {
+    for case in input.chunks_exact(WIDTH) {
+        answer(number(case, 0), number(case, 5), out)?;
     }
+    Ok(())
 }
 
-fn main() {
-    let mut space = io::buffer();
-    let n = io::read_full(0, &mut space);
-    run(&space[..n]);
+fn main(rt: HostRuntime) -> io::Result<()> {
+    let mut space = [0u8; INPUT];
+    let n = whole_input::read_full(&mut rt.reader(), &mut space)?;
+    let mut out = io::writer(&rt);
+    run(&space[..n], &mut out)?;
+    out.flush()
 }

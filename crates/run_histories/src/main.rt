@@ -5,7 +5,15 @@
 // begins a remark, which is said again. Each answer is as the oracle prints it, but a datum is its bytes in hex. What the histories
 // are, and where their answers come from (the original Rust, or document 01 for refusals that it does not have), is in
 // tools/history_cases.py.
+#![tactic(auto)]
+
 ghost use Rattle.std.specs.Prelude.{◌≡◌, ◌≤◌, length};
+
+use std::io;
+use std::io::Write;
+
+// at most so many bytes are read
+const INPUT: usize = 262144;
 
 // A number of the list; 0 past its end.
 fn word(list: &[u64], at: usize) -> u64 {
@@ -26,8 +34,8 @@ fn wide(n: u8) -> u64 {
 fn longer(n: u64, byte: u8) -> u64 {
     match byte {
         b'0'..=b'9' => {
-            let tenfold = std::num::wrapping_add_u64(n << 3, n << 1);
-            std::num::wrapping_add_u64(tenfold, wide(byte - b'0'))
+            let tenfold = (n << 3).wrapping_add(n << 1);
+            tenfold.wrapping_add(wide(byte - b'0'))
         }
         _ => n,
     }
@@ -59,11 +67,9 @@ fn numbers(line: &[u8], list: &mut [u64]) -> usize
 {
     leaf_clear::clear_words(list);
     let mut begun: usize = 0;
-    let mut i = 0;
-    while i < line.len() {
-        begun += begins(line[i]);
-        lengthen(list, begun, line[i]);
-        i += 1;
+    for byte in line {
+        begun += begins(*byte);
+        lengthen(list, begun, *byte);
     }
     least(begun as u64, list.len())
 }
@@ -86,59 +92,54 @@ fn bytes_of(line: &[u8], bytes: &mut [u8]) -> usize
     }
 }
 
-fn print_hexed(list: &[u8]) {
+fn print_hexed(list: &[u8], out: &mut impl Write) -> io::Result<()> {
     let mut line = [0u8; 32768];
     if 16384 < list.len() {
-        return;
+        return Ok(());
     }
     let n = text_numbers::print_hex(list, &mut line, 0);
     let m = least(n as u64, 32768);
-    io::write_all(1, &line[..m]);
+    out.write_all(&line[..m])
 }
 
-fn say(key: &[u8], n: u64) {
-    io::write_all(1, key);
-    io::print_decimal(1, n);
-    io::write_all(1, b"\n");
+fn say(key: &[u8], n: u64, out: &mut impl Write) -> io::Result<()> {
+    out.write_all(key)?;
+    writeln!(out, "{n}")
 }
 
 // What a call told that gives no value.
-fn tell(number: u32) {
+fn tell(number: u32, out: &mut impl Write) -> io::Result<()> {
     if number == 0 {
-        io::write_all(1, b"ok\n");
-        return;
+        return out.write_all(b"ok\n");
     }
-    say(b"refused=", number as u64);
+    say(b"refused=", number as u64, out)
 }
 
-fn tell_slot(number: u32, slot: u64) {
+fn tell_slot(number: u32, slot: u64, out: &mut impl Write) -> io::Result<()> {
     if number != 0 {
-        tell(number);
-        return;
+        return tell(number, out);
     }
-    say(b"slot=", slot);
+    say(b"slot=", slot, out)
 }
 
-fn tell_truth(number: u32, truth: u64) {
+fn tell_truth(number: u32, truth: u64, out: &mut impl Write) -> io::Result<()> {
     if number != 0 {
-        tell(number);
-        return;
+        return tell(number, out);
     }
     if truth == 0 {
-        io::write_all(1, b"false\n");
+        out.write_all(b"false\n")
     } else {
-        io::write_all(1, b"true\n");
+        out.write_all(b"true\n")
     }
 }
 
-fn tell_datum(number: u32, datum: &[u8]) {
+fn tell_datum(number: u32, datum: &[u8], out: &mut impl Write) -> io::Result<()> {
     if number != 0 {
-        tell(number);
-        return;
+        return tell(number, out);
     }
-    io::write_all(1, b"datum=");
-    print_hexed(datum);
-    io::write_all(1, b"\n");
+    out.write_all(b"datum=")?;
+    print_hexed(datum, out)?;
+    out.write_all(b"\n")
 }
 
 fn put(
@@ -148,12 +149,13 @@ fn put(
     elems: &mut [u64],
     scratch: &mut [u64],
     line: &[u8],
-) {
+    out: &mut impl Write,
+) -> io::Result<()> {
     let mut datum = [0u8; 8192];
     let n = bytes_of(line, &mut datum);
     let mut slot = 0;
     let k = c_doors::talvongre_put(words, map, bytes, elems, scratch, &datum[..n], &mut slot);
-    tell_slot(k, slot);
+    tell_slot(k, slot, out)
 }
 
 // A read into an output of the length that is given, if there is so much room.
@@ -163,17 +165,18 @@ fn read_into(
     bytes: &[u8],
     elems: &[u64],
     scratch: &mut [u64],
-    out: &mut [u8],
+    datum: &mut [u8],
     given: &[u64],
-) {
-    let room = least(word(given, 0), out.len());
+    out: &mut impl Write,
+) -> io::Result<()> {
+    let room = least(word(given, 0), datum.len());
     let kind = word(given, 1);
     let a = word(given, 2);
-    let part = &mut out[..room];
+    let part = &mut datum[..room];
     let mut size = 0;
     let k = c_doors::talvongre_read(words, map, bytes, elems, scratch, part, kind, a, &mut size);
-    let n = least(size, out.len());
-    tell_datum(k, &out[..n]);
+    let n = least(size, datum.len());
+    tell_datum(k, &datum[..n], out)
 }
 
 fn read(
@@ -183,12 +186,20 @@ fn read(
     elems: &[u64],
     scratch: &mut [u64],
     given: &[u64],
-) {
-    let mut out = [0u8; 16384];
-    read_into(words, map, bytes, elems, scratch, &mut out, given);
+    out: &mut impl Write,
+) -> io::Result<()> {
+    let mut datum = [0u8; 16384];
+    read_into(words, map, bytes, elems, scratch, &mut datum, given, out)
 }
 
-fn eqv(words: &[u64], map: &[u8], bytes: &[u8], elems: &[u64], given: &[u64]) {
+fn eqv(
+    words: &[u64],
+    map: &[u8],
+    bytes: &[u8],
+    elems: &[u64],
+    given: &[u64],
+    out: &mut impl Write,
+) -> io::Result<()> {
     let mut truth = 0;
     let k = c_doors::talvongre_eqv(
         words,
@@ -201,53 +212,68 @@ fn eqv(words: &[u64], map: &[u8], bytes: &[u8], elems: &[u64], given: &[u64]) {
         word(given, 3),
         &mut truth,
     );
-    tell_truth(k, truth);
+    tell_truth(k, truth, out)
 }
 
 // The symbol table's entry that leads to a slot, if there is one.
-fn print_entry(words: &[u64], map: &[u8], bytes: &[u8], elems: &[u64], slot: u64) {
+fn print_entry(
+    words: &[u64],
+    map: &[u8],
+    bytes: &[u8],
+    elems: &[u64],
+    slot: u64,
+    out: &mut impl Write,
+) -> io::Result<()> {
     let entries = least(word(words, 3), 4096);
-    let mut i = 0;
-    while i < entries {
+    for i in 0..entries {
         if word(words, 8 * i + 13) == slot {
-            io::write_all(1, b"entry=");
-            io::print_decimal(1, word(words, 8 * i + 14));
-            io::write_all(1, b":");
-            print_hexed(doors::text(words, map, bytes, elems, slot));
-            say(b":", slot);
+            let scope = word(words, 8 * i + 14);
+            write!(out, "entry={scope}:")?;
+            print_hexed(doors::text(words, map, bytes, elems, slot), out)?;
+            say(b":", slot, out)?;
         }
-        i += 1;
     }
+    Ok(())
 }
 
-fn print_entries(words: &[u64], map: &[u8], bytes: &[u8], elems: &[u64]) {
+fn print_entries(
+    words: &[u64],
+    map: &[u8],
+    bytes: &[u8],
+    elems: &[u64],
+    out: &mut impl Write,
+) -> io::Result<()> {
     let capacity = least(word(words, 1), 4096);
-    let mut s = 0;
-    while s < capacity {
-        print_entry(words, map, bytes, elems, s as u64);
-        s += 1;
+    for s in 0..capacity {
+        print_entry(words, map, bytes, elems, s as u64, out)?;
     }
+    Ok(())
 }
 
-fn print_states(words: &[u64], map: &[u8]) {
+fn print_states(words: &[u64], map: &[u8], out: &mut impl Write) -> io::Result<()> {
     let capacity = least(word(words, 1), 4096);
-    io::write_all(1, b"states=");
-    let mut s = 0;
-    while s < capacity {
-        io::print_decimal(1, wide(leaf_map::get(map, s)));
-        s += 1;
+    out.write_all(b"states=")?;
+    for s in 0..capacity {
+        let state = wide(leaf_map::get(map, s));
+        write!(out, "{state}")?;
     }
-    io::write_all(1, b"\n");
+    out.write_all(b"\n")
 }
 
 // The listing without roots, the symbol table by slot, and each slot's state.
-fn dump(words: &[u64], map: &[u8], bytes: &[u8], elems: &[u64]) {
+fn dump(
+    words: &[u64],
+    map: &[u8],
+    bytes: &[u8],
+    elems: &[u64],
+    out: &mut impl Write,
+) -> io::Result<()> {
     if heap_sound::is_sound(words, map, bytes, elems) {
-        sheet_answer::print_heap(words, map, bytes, elems);
-        print_entries(words, map, bytes, elems);
-        print_states(words, map);
+        sheet_answer::print_heap(words, map, bytes, elems, out)?;
+        print_entries(words, map, bytes, elems, out)?;
+        print_states(words, map, out)
     } else {
-        tell(20);
+        tell(20, out)
     }
 }
 
@@ -259,7 +285,8 @@ fn equal(
     elems: &[u64],
     scratch: &mut [u64],
     given: &[u64],
-) {
+    out: &mut impl Write,
+) -> io::Result<()> {
     let mut truth = 0;
     let k = c_doors::talvongre_equal(
         words,
@@ -273,7 +300,7 @@ fn equal(
         word(given, 3),
         &mut truth,
     );
-    tell_truth(k, truth);
+    tell_truth(k, truth, out)
 }
 
 // The calls that ask, and a remark.
@@ -285,20 +312,17 @@ fn ask(
     scratch: &mut [u64],
     line: &[u8],
     given: &[u64],
-)
+    out: &mut impl Write,
+) -> io::Result<()>
     requires { 1 ≤ length line.now }
 {
     match line[0] {
-        b'r' => read(words, map, bytes, elems, scratch, given),
-        b'v' => eqv(words, map, bytes, elems, given),
-        b'q' => equal(words, map, bytes, elems, scratch, given),
-        b'd' => dump(words, map, bytes, elems),
-        b'#' => {
-            io::write_all(1, line);
-        }
-        _ => {
-            io::write_all(1, b"unknown\n");
-        }
+        b'r' => read(words, map, bytes, elems, scratch, given, out),
+        b'v' => eqv(words, map, bytes, elems, given, out),
+        b'q' => equal(words, map, bytes, elems, scratch, given, out),
+        b'd' => dump(words, map, bytes, elems, out),
+        b'#' => out.write_all(line),
+        _ => out.write_all(b"unknown\n"),
     }
 }
 
@@ -318,7 +342,8 @@ fn step(
     scratch: &mut [u64],
     line: &[u8],
     given: &[u64],
-)
+    out: &mut impl Write,
+) -> io::Result<()>
     requires { 1 ≤ length line.now }
 {
     let a = word(given, 0);
@@ -326,13 +351,25 @@ fn step(
     let c = word(given, 2);
     let d = word(given, 3);
     match line[0] {
-        b's' => tell(c_doors::talvongre_setup(words, map, bytes, elems, a)),
-        b'p' => put(words, map, bytes, elems, scratch, line),
-        b'c' => tell(c_doors::talvongre_cell_store(words, map, bytes, elems, a, b, c, d)),
-        b'e' => tell(c_doors::talvongre_element_store(words, map, bytes, elems, a, b, c, d)),
-        b'g' => tell(c_doors::talvongre_collect(words, map, bytes, elems, scratch, given)),
-        b'w' => write_word(words, a, b),
-        _ => ask(words, map, bytes, elems, scratch, line, given),
+        b's' => tell(c_doors::talvongre_setup(words, map, bytes, elems, a), out),
+        b'p' => put(words, map, bytes, elems, scratch, line, out),
+        b'c' => tell(
+            c_doors::talvongre_cell_store(words, map, bytes, elems, a, b, c, d),
+            out,
+        ),
+        b'e' => tell(
+            c_doors::talvongre_element_store(words, map, bytes, elems, a, b, c, d),
+            out,
+        ),
+        b'g' => tell(
+            c_doors::talvongre_collect(words, map, bytes, elems, scratch, given),
+            out,
+        ),
+        b'w' => {
+            write_word(words, a, b);
+            Ok(())
+        }
+        _ => ask(words, map, bytes, elems, scratch, line, given, out),
     }
 }
 
@@ -360,20 +397,23 @@ fn run(
     scratch: &mut [u64],
     given: &mut [u64],
     text: &[u8],
-) {
+    out: &mut impl Write,
+) -> io::Result<()> {
     let mut at = 0;
     while at < text.len() {
         let end = at + line_length(&text[at..]);
         let line = &text[at..end];
         let n = numbers(line, given);
-        step(words, map, bytes, elems, scratch, line, &given[..n]);
+        step(words, map, bytes, elems, scratch, line, &given[..n], out)?;
         at = end;
     }
+    Ok(())
 }
 
-fn main() {
-    let mut space = [0u8; 262144];
-    let n = io::read_full(0, &mut space);
+fn main(rt: HostRuntime) -> io::Result<()> {
+    let mut space = [0u8; INPUT];
+    let n = whole_input::read_full(&mut rt.reader(), &mut space)?;
+    let mut out = io::writer(&rt);
     let mut words = [0u64; 2088];
     let mut map = [0u8; 65];
     let mut bytes = [0u8; 8192];
@@ -388,5 +428,7 @@ fn main() {
         &mut scratch,
         &mut given,
         &space[..n],
-    );
+        &mut out,
+    )?;
+    out.flush()
 }

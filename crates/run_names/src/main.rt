@@ -3,14 +3,21 @@
 // neighbours as given how the first's name stands to the second's (`<`, `=` or `>`) and whether the two are the same; then the
 // entries in order, a line each, name in hex and scope in decimal; then whether no two share a key. What the cases are, and
 // their answers, is made by tools/name_cases.py.
+#![tactic(auto)]
+
 ghost use Rattle.std.specs.Prelude.{true, ◌≡◌, ◌<◌, ◌≤◌, length, take};
 ghost use Rattle.leaf_names.specs.Keys.{Within, Entries};
 
 use leaf_names::Order;
+use std::io;
+use std::io::Write;
+
+// at most so many bytes are read
+const INPUT: usize = 65536;
 
 // What was read of a case: the whole entries, the bytes of their names and of the one begun, where that one begins, and the hex
 // digits since the last space or semicolon.
-#[derive(Drop)]
+#[derive(Clone, Copy)]
 struct Reading {
     entries: usize,
     used: usize,
@@ -116,20 +123,20 @@ fn list(order: &mut [u64], keys: &[u64], bytes: &[u8], entries: usize) -> usize
     n
 }
 
-fn say(yes: bool) {
+fn say(yes: bool, out: &mut impl Write) -> io::Result<()> {
     if yes {
-        io::write_all(1, b"1");
+        out.write_all(b"1")
     } else {
-        io::write_all(1, b"0");
+        out.write_all(b"0")
     }
 }
 
-fn say_order(o: Order) {
+fn say_order(o: Order, out: &mut impl Write) -> io::Result<()> {
     match o {
-        Order::Before => io::write_all(1, b"<"),
-        Order::Same => io::write_all(1, b"="),
-        Order::After => io::write_all(1, b">"),
-    };
+        Order::Before => out.write_all(b"<"),
+        Order::Same => out.write_all(b"="),
+        Order::After => out.write_all(b">"),
+    }
 }
 
 fn hex_digit(n: u8) -> u8
@@ -138,105 +145,119 @@ fn hex_digit(n: u8) -> u8
     if n < 10 { b'0' + n } else { b'a' + (n - 10) }
 }
 
-fn say_name(name: &[u8]) {
-    let mut i = 0;
-    while i < name.len() {
-        let pair = [hex_digit(name[i] / 16), hex_digit(name[i] % 16)];
-        io::write_all(1, &pair);
-        i += 1;
+fn say_name(name: &[u8], out: &mut impl Write) -> io::Result<()> {
+    for byte in name {
+        let pair = [hex_digit(*byte / 16), hex_digit(*byte % 16)];
+        out.write_all(&pair)?;
     }
+    Ok(())
 }
 
 // How the names of neighbours stand to each other.
-fn say_pairs(order: &[u64], keys: &[u64], bytes: &[u8])
+fn say_pairs(order: &[u64], keys: &[u64], bytes: &[u8], out: &mut impl Write) -> io::Result<()>
     requires { Entries keys.now bytes.now order.now }
 {
-    let mut i = 0;
-    while i + 1 < order.len() {
-        let a = leaf_names::name(keys, bytes, order[i]);
-        let b = leaf_names::name(keys, bytes, order[i + 1]);
-        say_order(leaf_names::compare(a, b));
-        say(leaf_names::same(a, b));
-        i += 1;
+    for pair in order.windows(2) {
+        let a = leaf_names::name(keys, bytes, pair[0]);
+        let b = leaf_names::name(keys, bytes, pair[1]);
+        say_order(leaf_names::compare(a, b), out)?;
+        say(leaf_names::same(a, b), out)?;
     }
-    io::write_all(1, b"\n");
+    out.write_all(b"\n")
 }
 
-fn say_key(keys: &[u64], bytes: &[u8], e: u64)
+fn say_key(keys: &[u64], bytes: &[u8], e: u64, out: &mut impl Write) -> io::Result<()>
     requires { Within keys.now bytes.now e }
 {
-    say_name(leaf_names::name(keys, bytes, e));
-    io::write_all(1, b" ");
-    io::print_decimal(1, keys[3 * e as usize + 2]);
-    io::write_all(1, b"\n");
+    say_name(leaf_names::name(keys, bytes, e), out)?;
+    writeln!(out, " {}", keys[3 * e as usize + 2])
 }
 
 // The entries' keys in the list's order.
-fn say_keys(order: &[u64], keys: &[u64], bytes: &[u8])
+fn say_keys(order: &[u64], keys: &[u64], bytes: &[u8], out: &mut impl Write) -> io::Result<()>
     requires { Entries keys.now bytes.now order.now }
 {
-    let mut i = 0;
-    while i < order.len() {
-        say_key(keys, bytes, order[i]);
-        i += 1;
+    for e in order {
+        say_key(keys, bytes, *e, out)?;
     }
+    Ok(())
 }
 
 // Sorts the entries listed, and says what they are then.
-fn arrange(order: &mut [u64], keys: &[u64], bytes: &[u8])
+fn arrange(order: &mut [u64], keys: &[u64], bytes: &[u8], out: &mut impl Write) -> io::Result<()>
     requires { Entries keys.now bytes.now order.old }
 {
-    leaf_names::sort(order, keys, bytes);
-    say_keys(order, keys, bytes);
-    say(leaf_names::distinct(order, keys, bytes));
-    io::write_all(1, b"\n");
+    leaf_sort::sort(order, keys, bytes);
+    say_keys(order, keys, bytes, out)?;
+    say(leaf_sort::distinct(order, keys, bytes), out)?;
+    out.write_all(b"\n")
 }
 
-fn answer(order: &mut [u64], keys: &[u64], bytes: &[u8], entries: usize) {
+fn answer(
+    order: &mut [u64],
+    keys: &[u64],
+    bytes: &[u8],
+    entries: usize,
+    out: &mut impl Write,
+) -> io::Result<()> {
     let n = list(order, keys, bytes, entries);
-    say_pairs(&order[..n], keys, bytes);
-    arrange(&mut order[..n], keys, bytes);
+    say_pairs(&order[..n], keys, bytes, out)?;
+    arrange(&mut order[..n], keys, bytes, out)
 }
 
 // Takes one byte of the text.
-fn step(order: &mut [u64], keys: &mut [u64], bytes: &mut [u8], r: Reading, byte: u8) -> Reading {
+fn step(
+    order: &mut [u64],
+    keys: &mut [u64],
+    bytes: &mut [u8],
+    r: Reading,
+    byte: u8,
+    out: &mut impl Write,
+) -> io::Result<Reading> {
     if byte == b' ' {
-        return more_name(bytes, r);
+        return Ok(more_name(bytes, r));
     }
     if byte == b';' {
-        return more_entries(keys, r);
+        return Ok(more_entries(keys, r));
     }
     if byte == b'.' {
-        answer(order, keys, bytes, r.entries);
-        return Reading {
+        answer(order, keys, bytes, r.entries, out)?;
+        return Ok(Reading {
             entries: 0,
             used: 0,
             place: 0,
             value: 0,
-        };
+        });
     }
-    more_value(r, byte)
+    Ok(more_value(r, byte))
 }
 
-fn run(text: &[u8], order: &mut [u64], keys: &mut [u64], bytes: &mut [u8]) {
+fn run(
+    text: &[u8],
+    order: &mut [u64],
+    keys: &mut [u64],
+    bytes: &mut [u8],
+    out: &mut impl Write,
+) -> io::Result<()> {
     let mut r = Reading {
         entries: 0,
         used: 0,
         place: 0,
         value: 0,
     };
-    let mut at = 0;
-    while at < text.len() {
-        r = step(order, keys, bytes, r, text[at]);
-        at += 1;
+    for byte in text {
+        r = step(order, keys, bytes, r, *byte, out)?;
     }
+    Ok(())
 }
 
-fn main() {
-    let mut space = io::large_buffer();
-    let n = io::read_full(0, &mut space);
+fn main(rt: HostRuntime) -> io::Result<()> {
+    let mut space = [0u8; INPUT];
+    let n = whole_input::read_full(&mut rt.reader(), &mut space)?;
+    let mut out = io::writer(&rt);
     let mut order = [0u64; 512];
     let mut keys = [0u64; 1536];
     let mut bytes = [0u8; 16384];
-    run(&space[..n], &mut order, &mut keys, &mut bytes);
+    run(&space[..n], &mut order, &mut keys, &mut bytes, &mut out)?;
+    out.flush()
 }

@@ -1,8 +1,16 @@
 // Runs the symbol table on stored cases. A case is a line "OP XX N C TEXT": what is done, a slot in two hex digits, a scope or
 // a number in sixteen, a name's length or a kind in one, and eight bytes of a name or digits of a size. The answer is a
 // line: what the call tells, then all words. What the cases are, and their answers, is made by tools/symbol_cases.py.
+#![tactic(auto)]
+
 ghost use Rattle.std.specs.Prelude.{true, ◌≡◌, ◌≤◌, length};
 ghost use Rattle.leaf_symbols.specs.Table.{bytes_used, Tabled};
+
+use std::io;
+use std::io::Write;
+
+// at most so many bytes are read
+const INPUT: usize = 65536;
 
 const WIDTH: usize = 33;
 
@@ -25,25 +33,21 @@ fn digit(byte: u8) -> u64 {
 
 fn number(digits: &[u8]) -> u64 {
     let mut n: u64 = 0;
-    let mut i = 0;
-    while i < digits.len() {
-        n = (n << 4) | digit(digits[i]);
-        i += 1;
+    for d in digits {
+        n = (n << 4) | digit(*d);
     }
     n
 }
 
-fn print(n: u64) {
-    io::print_decimal(1, n);
-    io::write_all(1, b" ");
+fn print(n: u64, out: &mut impl Write) -> io::Result<()> {
+    write!(out, "{n} ")
 }
 
-fn print_words(list: &[u64]) {
-    let mut i = 0;
-    while i < list.len() {
-        print(list[i]);
-        i += 1;
+fn print_words(list: &[u64], out: &mut impl Write) -> io::Result<()> {
+    for n in list {
+        print(*n, out)?;
     }
+    Ok(())
 }
 
 // The table, its entries' slots and the bytes in use are within the rooms.
@@ -58,37 +62,47 @@ fn fits(words: &[u64]) -> bool
         return false;
     }
     let count = words[3] as usize;
-    let mut i = 0;
-    while i < count {
+    for i in 0..count {
         if words[8 + 8 * i + 5] >= 8 {
             return false;
         }
-        i += 1;
     }
     true
 }
 
-fn find(words: &[u64], bytes: &[u8], name: &[u8], scope: u64)
+fn find(
+    words: &[u64],
+    bytes: &[u8],
+    name: &[u8],
+    scope: u64,
+    out: &mut impl Write,
+) -> io::Result<()>
     requires { (length words.now ≡ 72) × (length bytes.now ≡ 64) }
 {
     if fits(words) {
         match leaf_find::find(words, bytes, name, scope) {
-            leaf_find::Found::At(slot) => print(slot as u64),
-            leaf_find::Found::Missing => {
-                io::write_all(1, b"missing ");
-            }
+            leaf_find::Found::At(slot) => print(slot as u64, out)?,
+            leaf_find::Found::Missing => out.write_all(b"missing ")?,
         }
     }
+    Ok(())
 }
 
-fn name_is(words: &[u64], bytes: &[u8], slot: usize, name: &[u8])
+fn name_is(
+    words: &[u64],
+    bytes: &[u8],
+    slot: usize,
+    name: &[u8],
+    out: &mut impl Write,
+) -> io::Result<()>
     requires { (length words.now ≡ 72) × (length bytes.now ≡ 64) }
 {
     if slot < SLOTS {
         if words[4] <= 64 {
-            print(leaf_find::name_is(words, bytes, slot, name) as u64);
+            print(leaf_find::name_is(words, bytes, slot, name) as u64, out)?;
         }
     }
+    Ok(())
 }
 
 fn store(words: &mut [u64], slot: usize, cell: leaf_cells::VCell)
@@ -136,19 +150,26 @@ fn drop_freed(words: &mut [u64], map: &[u8])
     }
 }
 
-fn ask(words: &[u64], bytes: &[u8], line: &[u8])
+fn ask(words: &[u64], bytes: &[u8], line: &[u8], out: &mut impl Write) -> io::Result<()>
     requires { (length words.now ≡ 72) × (length bytes.now ≡ 64) × (length line.now ≡ 33) }
 {
     let size = number(&line[22..23]) as usize;
     if size <= 8 {
         let end = 24 + size;
         if line[0] == b'f' {
-            find(words, bytes, &line[24..end], number(&line[5..21]));
+            find(words, bytes, &line[24..end], number(&line[5..21]), out)?;
         }
         if line[0] == b'n' {
-            name_is(words, bytes, number(&line[2..4]) as usize, &line[24..end]);
+            name_is(
+                words,
+                bytes,
+                number(&line[2..4]) as usize,
+                &line[24..end],
+                out,
+            )?;
         }
     }
+    Ok(())
 }
 
 fn change(words: &mut [u64], map: &mut [u8], line: &[u8])
@@ -188,27 +209,33 @@ fn name(words: &mut [u64], bytes: &mut [u8], line: &[u8])
     }
 }
 
-fn run(words: &mut [u64], map: &mut [u8], bytes: &mut [u8], input: &[u8])
+fn run(
+    words: &mut [u64],
+    map: &mut [u8],
+    bytes: &mut [u8],
+    input: &[u8],
+    out: &mut impl Write,
+) -> io::Result<()>
     requires { (length words.old ≡ 72) × (length map.old ≡ 2) × (length bytes.old ≡ 64) }
 {
-    let mut at = 0;
-    while WIDTH <= input.len() - at {
-        let end = at + WIDTH;
-        name(words, bytes, &input[at..end]);
-        change(words, map, &input[at..end]);
-        ask(words, bytes, &input[at..end]);
-        io::write_all(1, b"| ");
-        print_words(words);
-        io::write_all(1, b"\n");
-        at = end;
+    for line in input.chunks_exact(WIDTH) {
+        name(words, bytes, line);
+        change(words, map, line);
+        ask(words, bytes, line, out)?;
+        out.write_all(b"| ")?;
+        print_words(words, out)?;
+        out.write_all(b"\n")?;
     }
+    Ok(())
 }
 
-fn main() {
-    let mut space = io::large_buffer();
-    let n = io::read_full(0, &mut space);
+fn main(rt: HostRuntime) -> io::Result<()> {
+    let mut space = [0u8; INPUT];
+    let n = whole_input::read_full(&mut rt.reader(), &mut space)?;
+    let mut out = io::writer(&rt);
     let mut words = [0u64; WORDS];
     let mut map = [0u8; 2];
     let mut bytes = [0u8; BYTES];
-    run(&mut words, &mut map, &mut bytes, &space[..n]);
+    run(&mut words, &mut map, &mut bytes, &space[..n], &mut out)?;
+    out.flush()
 }

@@ -1,7 +1,15 @@
 // Runs the UTF-8 check on stored cases. A case is a line of bytes in hex, or `u` and a code point in four such bytes, highest
 // first. The answer is a line: 1 where the bytes are UTF-8, or the code point a scalar value, and else 0. What the cases
 // are, and their answers, is made by tools/leaf_cases.py.
+#![tactic(auto)]
+
 ghost use Rattle.std.specs.Prelude.{◌+◌, ◌*◌, ◌<◌, ◌≤◌, length};
+
+use std::io;
+use std::io::Write;
+
+// at most so many bytes are read
+const INPUT: usize = 65536;
 
 // A digit of lower-case hex; 16 for any other byte.
 fn digit(byte: u8) -> u8
@@ -50,49 +58,51 @@ fn number(bytes: &[u8]) -> u64
     ((wide(bytes[0]) * 256 + wide(bytes[1])) * 256 + wide(bytes[2])) * 256 + wide(bytes[3])
 }
 
-fn say(yes: bool) {
+fn say(yes: bool, out: &mut impl Write) -> io::Result<()> {
     if yes {
-        io::write_all(1, b"1\n");
+        out.write_all(b"1\n")
     } else {
-        io::write_all(1, b"0\n");
+        out.write_all(b"0\n")
     }
 }
 
-// Answers the case that the text begins with, and says how many bytes of it that was.
-fn answer(text: &[u8], bytes: &mut [u8]) -> usize
+// The answer to the case that the text begins with, and how many bytes of it that was.
+fn answer(text: &[u8], bytes: &mut [u8]) -> (bool, usize)
     requires { 4 ≤ length bytes.old }
-    ensures { result ≤ length text.now }
+    ensures { result.1 ≤ length text.now }
 {
     if 0 < text.len() && text[0] == b'u' {
         let n = unhex(&text[1..], bytes);
-        say(leaf_utf8::is_scalar_value(number(bytes)));
-        1 + 2 * n
+        (leaf_utf8::is_scalar_value(number(bytes)), 1 + 2 * n)
     } else {
         let n = unhex(text, bytes);
-        say(leaf_utf8::is_utf8(&bytes[..n]));
-        2 * n
+        (leaf_utf8::is_utf8(&bytes[..n]), 2 * n)
     }
 }
 
 // Answers one case after the other. Each ends in a line's end.
-fn run(text: &[u8], bytes: &mut [u8])
+fn run(text: &[u8], bytes: &mut [u8], out: &mut impl Write) -> io::Result<()>
     requires { 4 ≤ length bytes.old }
 {
     let mut at = 0;
     while at < text.len() {
-        let n = answer(&text[at..], bytes);
+        let (yes, n) = answer(&text[at..], bytes);
+        say(yes, out)?;
         at += n;
         if at < text.len() {
             at += 1;
         } else {
-            return;
+            return Ok(());
         }
     }
+    Ok(())
 }
 
-fn main() {
-    let mut space = io::large_buffer();
-    let n = io::read_full(0, &mut space);
+fn main(rt: HostRuntime) -> io::Result<()> {
+    let mut space = [0u8; INPUT];
+    let n = whole_input::read_full(&mut rt.reader(), &mut space)?;
+    let mut out = io::writer(&rt);
     let mut bytes = [0u8; 64];
-    run(&space[..n], &mut bytes);
+    run(&space[..n], &mut bytes, &mut out)?;
+    out.flush()
 }

@@ -2,12 +2,12 @@
 use mathlib.Core.Path.{◌≡◌, sym, subst}
 use mathlib.Core.Bool.{true}
 use mathlib.Core.List.{List}
-use Prim.Native.Nat.{ℕ, ◌+◌, ◌*◌, ◌/◌, ◌≤◌, ◌<◌}
+use Prim.Native.Nat.{ℕ, ◌+◌, ◌*◌, ◌/◌, ◌≤◌}
 use native.Mathlib.Omega.{arith}
-use lib.ListN.{length, get_or, take}
+use lib.ListN.{length, take}
 use lib.Seq.{length-take-le}
 use Rattle.laws.specs.Basics.{zeros}
-use Rattle.rules.specs.Layout.{Lent, header, map_bytes}
+use Rattle.rules.specs.Layout.{map_bytes}
 use Rattle.rules.specs.Sound.{sound}
 use Rattle.heap_sound_rows.specs.Rows.{lists}
 use Rattle.sheet_run.specs.declared.Ran.{Ran}

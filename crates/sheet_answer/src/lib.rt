@@ -1,72 +1,97 @@
-// The answer to a sheet on standard output: its listing, or only `refused=N`. Document 01, "Sheets": `sheet` "reads one from
+// The answer to a sheet, written out: its listing, or only `refused=N`. Document 01, "Sheets": `sheet` "reads one from
 // standard input (32 KiB, 192 slots, 8,192 bytes, 2,048 elements lent), puts each datum and prints." Which text is to be
-// printed is `sheet_run`'s promise, and each line `sheet_listing`'s. A listing can be long, so it is written line by line.
+// printed is `sheet_run`'s promise, and each line `sheet_print`'s or
+// `sheet_listing`'s. A listing can be long, so it is written line by line, to a writer that is lent.
+#![tactic(auto)]
+
 ghost use Rattle.std.specs.Prelude.{true, ◌≡◌, ◌≤◌, length, get_or};
 ghost use Rattle.rules.specs.Sound.{sound};
 ghost use Rattle.heap_sound_rows.specs.Rows.{lists};
 ghost use Rattle.sheet_run.specs.Running.{RoomsLent};
 
+use std::io;
+use std::io::Write;
+
 // Writes the line at the start of the buffer.
-fn say(line: &[u8], n: usize)
+fn say(line: &[u8], n: usize, out: &mut impl Write) -> io::Result<()>
     requires { n ≤ length line.now }
 {
-    io::write_all(1, &line[..n]);
+    out.write_all(&line[..n])
 }
 
 // "One `root` a datum".
-fn say_roots(roots: &[u64], line: &mut [u8])
+fn say_roots(roots: &[u64], line: &mut [u8], out: &mut impl Write) -> io::Result<()>
     requires { 32768 ≤ length line.old }
 {
-    let mut i = 0;
-    while i < roots.len() {
-        let n = sheet_print::root_line(roots[i], line);
-        say(line, n);
-        i += 1;
+    for root in roots {
+        let n = sheet_print::root_line(*root, line);
+        say(line, n, out)?;
     }
+    Ok(())
 }
 
 // `capacity`, `free` and `freelist`.
-fn say_counts(words: &[u64], map: &[u8], bytes: &[u8], elems: &[u64], line: &mut [u8])
+fn say_counts(
+    words: &[u64],
+    map: &[u8],
+    bytes: &[u8],
+    elems: &[u64],
+    line: &mut [u8],
+    out: &mut impl Write,
+) -> io::Result<()>
     requires elems_value { sound (lists words.now map.now bytes.now elems.now) ≡ true }
     requires in_bounds { 32768 ≤ length line.old }
 {
     let c = sheet_print::capacity_line(words, line);
-    say(line, c);
+    say(line, c, out)?;
     let f = sheet_print::free_line(words, line);
-    say(line, f);
+    say(line, f, out)?;
     let l = sheet_print::freelist_line(words, line);
-    say(line, l);
+    say(line, l, out)
 }
 
 // A line for each slot below the capacity.
-fn say_slots(words: &[u64], map: &[u8], bytes: &[u8], elems: &[u64], line: &mut [u8])
+fn say_slots(
+    words: &[u64],
+    map: &[u8],
+    bytes: &[u8],
+    elems: &[u64],
+    line: &mut [u8],
+    out: &mut impl Write,
+) -> io::Result<()>
     requires elems_value { sound (lists words.now map.now bytes.now elems.now) ≡ true }
     requires in_bounds { 32768 ≤ length line.old }
 {
     let capacity = words[1] as usize;
-    let mut s = 0;
-    while s < capacity {
+    for s in 0..capacity {
         let n = sheet_listing::slot_line(words, map, bytes, elems, s, line);
-        say(line, n);
-        s += 1;
+        say(line, n, out)?;
     }
+    Ok(())
 }
 
 // "On a refusal it prints only `refused=N`."
-fn say_refused(number: u64, line: &mut [u8])
+fn say_refused(number: u64, line: &mut [u8], out: &mut impl Write) -> io::Result<()>
     requires { 32768 ≤ length line.old }
 {
     let n = sheet_print::refusal_line(number, line);
-    say(line, n);
+    say(line, n, out)
 }
 
-// A heap's own lines of the listing: its counts, and its slots.
-pub fn print_heap(words: &[u64], map: &[u8], bytes: &[u8], elems: &[u64])
+// A heap's own lines of the listing: its counts, and its slots. The only error is the writer's own; it leaves the heap as it
+// was, and the lines before it were handed to the writer.
+pub fn print_heap(
+    words: &[u64],
+    map: &[u8],
+    bytes: &[u8],
+    elems: &[u64],
+    out: &mut impl Write,
+) -> io::Result<()>
     requires { sound (lists words.now map.now bytes.now elems.now) ≡ true }
 {
     let mut line = [0u8; 32768];
-    say_counts(words, map, bytes, elems, &mut line);
-    say_slots(words, map, bytes, elems, &mut line);
+    say_counts(words, map, bytes, elems, &mut line, out)?;
+    say_slots(words, map, bytes, elems, &mut line, out)
 }
 
 // The whole listing.
@@ -77,12 +102,13 @@ fn say_listing(
     elems: &[u64],
     roots: &[u64],
     line: &mut [u8],
-)
+    out: &mut impl Write,
+) -> io::Result<()>
     requires elems_value { sound (lists words.now map.now bytes.now elems.now) ≡ true }
     requires in_bounds { 32768 ≤ length line.old }
 {
-    say_roots(roots, line);
-    print_heap(words, map, bytes, elems);
+    say_roots(roots, line, out)?;
+    print_heap(words, map, bytes, elems, out)
 }
 
 // The answer, with the room that it takes.
@@ -97,13 +123,14 @@ fn answer_in(
     ends: &mut [u64],
     roots: &mut [u64],
     line: &mut [u8],
-)
+    out: &mut impl Write,
+) -> io::Result<()>
     requires rooms_lent { RoomsLent words.old map.old bytes.old elems.old scratch.old nodes.old ends.old roots.old }
     requires in_bounds { 32768 ≤ length line.old }
 {
     let r = sheet_run::run(text, words, map, bytes, elems, scratch, nodes, ends, roots);
     match r {
-        sheet_run::Ran::Refused(n) => say_refused(n, line),
+        sheet_run::Ran::Refused(n) => say_refused(n, line, out),
         sheet_run::Ran::Listed(slots, count) => {
             let rows = 8 + 8 * slots;
             let states = (slots + 3) / 4;
@@ -114,13 +141,15 @@ fn answer_in(
                 elems,
                 &roots[..count],
                 line,
-            );
+                out,
+            )
         }
     }
 }
 
-// Runs the sheet that a text is, and prints its answer.
-pub fn answer(text: &[u8]) {
+// Runs the sheet that a text is, and prints its answer. The only error is the writer's own; the lines before it were handed to
+// the writer.
+pub fn answer(text: &[u8], out: &mut impl Write) -> io::Result<()> {
     let mut words = [0u64; 1544];
     let mut map = [0u8; 48];
     let mut bytes = [0u8; 8192];
@@ -141,5 +170,6 @@ pub fn answer(text: &[u8]) {
         &mut ends,
         &mut roots,
         &mut line,
-    );
+        out,
+    )
 }
