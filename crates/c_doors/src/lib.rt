@@ -8,12 +8,63 @@ ghost use Rattle.std.specs.Prelude.{◌≡◌};
 ghost use Rattle.rules.specs.Refusals.{told};
 ghost use Rattle.rules.specs.Calls.{setup, put_call, read_call, collect_call, cell_store, element_store, eqv_call, EqualCall, text_call, capacity_call, free_call, used_call};
 ghost use Rattle.heap_sound_rows.specs.Rows.{lists};
-ghost use Rattle.doors.specs.Answers.{put_answer, count_answer, block_answer};
-ghost use Rattle.doors_collect.specs.Answers.{collect_answer};
-ghost use Rattle.doors_store.specs.Answers.{store_answer};
-ghost use Rattle.doors_equal.specs.Answers.{eqv_answer, equal_answer};
-ghost use Rattle.doors_read.specs.Answers.{read_answer};
+ghost use Rattle.refusals.specs.Told.{answer_of};
+ghost use Rattle.doors.specs.Answers.{block_answer};
 ghost use Rattle.c_doors.specs.Told.{Told, ToldBlock, ToldSetup, ToldPut, ToldRead, ToldCollect, ToldStore, ToldTruth, ToldEqual};
+
+use doors::TextBlock;
+use leaf_lists::{Lists, ListsMut};
+use refusals::Refusal;
+
+// A number that was asked for, and 0; or the refusal's number.
+fn tell(answer: Result<u64, Refusal>, asked: &mut u64) -> u32
+    ensures { Told (answer_of answer) asked.old result asked.new }
+{
+    match answer {
+        Ok(n) => {
+            *asked = n;
+            0
+        }
+        Err(none) => none.number(),
+    }
+}
+
+// 0, or the refusal's number.
+fn tell_done(answer: Result<(), Refusal>) -> u32
+    ensures { result ≡ told (answer_of answer) }
+{
+    match answer {
+        Ok(()) => 0,
+        Err(refusal) => refusal.number(),
+    }
+}
+
+// 1 or 0 for yes or no, and 0; or the refusal's number.
+fn tell_truth(answer: Result<bool, Refusal>, truth: &mut u64) -> u32
+    ensures { ToldTruth (answer_of answer) truth.old result truth.new }
+{
+    match answer {
+        Ok(t) => {
+            *truth = u64::from(t);
+            0
+        }
+        Err(refusal) => refusal.number(),
+    }
+}
+
+// A block's place and size, and 0; or the refusal's number.
+fn tell_block(answer: Result<TextBlock, Refusal>, place: &mut u64, size: &mut u64) -> u32
+    ensures { ToldBlock (block_answer answer) place.old size.old result place.new size.new }
+{
+    match answer {
+        Ok(block) => {
+            *place = block.place as u64;
+            *size = block.size as u64;
+            0
+        }
+        Err(no_text) => no_text.number(),
+    }
+}
 
 // "10 | setup, which gives no other": a fresh heap in the lent lists, whatever they held.
 pub fn talvongre_setup(
@@ -25,30 +76,13 @@ pub fn talvongre_setup(
 ) -> u32
     ensures { ToldSetup (setup chunk (lists words.old map.old bytes.old elems.old)) result (lists words.new map.new bytes.new elems.new) }
 {
-    let a = doors::setup(words, map, bytes, elems, chunk);
-    match a {
-        doors::SetupAnswer::Done => 0,
-        doors::SetupAnswer::BadSetup => 10,
-    }
-}
-
-// A put's answer by number, and its slot.
-fn tell_slot(a: doors::PutAnswer, slot: &mut u64) -> u32
-    ensures { Told (put_answer a) slot.old result slot.new }
-{
-    match a {
-        doors::PutAnswer::Slot(s) => {
-            *slot = s;
-            0
-        }
-        doors::PutAnswer::Unsound => 20,
-        doors::PutAnswer::ShortScratch => 19,
-        doors::PutAnswer::Malformed(_, _) => 11,
-        doors::PutAnswer::OverLimit => 12,
-        doors::PutAnswer::EarlyLabel => 13,
-        doors::PutAnswer::NoSlots => 16,
-        doors::PutAnswer::NoRoom => 17,
-    }
+    let mut heap = ListsMut {
+        words,
+        map,
+        bytes,
+        elems,
+    };
+    tell_done(doors::setup(&mut heap, chunk))
 }
 
 // Puts a lent datum: 20, 19, 11, 12, 13, 16 or 17, or 0 and its slot.
@@ -63,26 +97,13 @@ pub fn talvongre_put(
 ) -> u32
     ensures { ToldPut (put_call (lists words.old map.old bytes.old elems.old) scratch.old datum.now) slot.old result (lists words.new map.new bytes.new elems.new) scratch.new slot.new }
 {
-    let a = doors::put(words, map, bytes, elems, scratch, datum);
-    tell_slot(a, slot)
-}
-
-// A read's answer by number, and its length.
-fn tell_length(a: doors_read::ReadAnswer, length: &mut u64) -> u32
-    ensures { Told (read_answer a) length.old result length.new }
-{
-    match a {
-        doors_read::ReadAnswer::Length(n) => {
-            *length = n;
-            0
-        }
-        doors_read::ReadAnswer::Unsound => 20,
-        doors_read::ReadAnswer::ShortScratch => 19,
-        doors_read::ReadAnswer::Malformed(_) => 11,
-        doors_read::ReadAnswer::OverLimit => 12,
-        doors_read::ReadAnswer::NoSuchSlot => 14,
-        doors_read::ReadAnswer::ShortOutput => 18,
-    }
+    let mut heap = ListsMut {
+        words,
+        map,
+        bytes,
+        elems,
+    };
+    tell(doors::put(&mut heap, scratch, datum), slot)
 }
 
 // Reads a value into the lent output: 20, 19, 11, 12, 14 or 18, or 0 and the length written.
@@ -99,20 +120,13 @@ pub fn talvongre_read(
 ) -> u32
     ensures { ToldRead (read_call (lists words.now map.now bytes.now elems.now) scratch.old out.old kind a) length.old result scratch.new out.new length.new }
 {
-    let x = doors_read::read(words, map, bytes, elems, scratch, out, kind, a);
-    tell_length(x, length)
-}
-
-// A collection's answer by number.
-fn tell_collect(a: doors_collect::CollectAnswer) -> u32
-    ensures { result ≡ told (collect_answer a) }
-{
-    match a {
-        doors_collect::CollectAnswer::Done => 0,
-        doors_collect::CollectAnswer::Unsound => 20,
-        doors_collect::CollectAnswer::ShortScratch => 19,
-        doors_collect::CollectAnswer::NoSuchSlot => 14,
-    }
+    let heap = Lists {
+        words,
+        map,
+        bytes,
+        elems,
+    };
+    tell(doors_read::read(heap, scratch, out, kind, a), length)
 }
 
 // Keeps what the roots reach: 20, 19 or 14, or 0.
@@ -126,21 +140,13 @@ pub fn talvongre_collect(
 ) -> u32
     ensures { ToldCollect (collect_call (lists words.old map.old bytes.old elems.old) scratch.old roots.now) result (lists words.new map.new bytes.new elems.new) scratch.new }
 {
-    let a = doors_collect::collect(words, map, bytes, elems, scratch, roots);
-    tell_collect(a)
-}
-
-// A store's answer by number.
-fn tell_store(a: doors_store::StoreAnswer) -> u32
-    ensures { result ≡ told (store_answer a) }
-{
-    match a {
-        doors_store::StoreAnswer::Done => 0,
-        doors_store::StoreAnswer::Unsound => 20,
-        doors_store::StoreAnswer::Malformed(_) => 11,
-        doors_store::StoreAnswer::NoSuchSlot => 14,
-        doors_store::StoreAnswer::WrongCell => 15,
-    }
+    let mut heap = ListsMut {
+        words,
+        map,
+        bytes,
+        elems,
+    };
+    tell_done(doors_collect::collect(&mut heap, scratch, roots))
 }
 
 // "Cell store: a scalar or a pair of used slots into a used slot": 20, 11, 14 or 15, or 0.
@@ -156,8 +162,7 @@ pub fn talvongre_cell_store(
 ) -> u32
     ensures { ToldStore (cell_store (lists words.old map.now bytes.now elems.now) slot kind a b) result (lists words.new map.now bytes.now elems.now) }
 {
-    let x = doors_store::cell_store(words, map, bytes, elems, slot, kind, a, b);
-    tell_store(x)
+    tell_done(doors_store::cell_store(words, map, bytes, elems, slot, kind, a, b))
 }
 
 // "Element store: a scalar or a used slot": 20, 11, 14 or 15, or 0.
@@ -173,23 +178,7 @@ pub fn talvongre_element_store(
 ) -> u32
     ensures { ToldStore (element_store (lists words.now map.now bytes.now elems.old) slot k kind a) result (lists words.now map.now bytes.now elems.new) }
 {
-    let x = doors_store::element_store(words, map, bytes, elems, slot, k, kind, a);
-    tell_store(x)
-}
-
-// The answer of `eqv` by number, and 1 or 0 for yes or no.
-fn tell_eqv(a: doors_equal::EqvAnswer, truth: &mut u64) -> u32
-    ensures { ToldTruth (eqv_answer a) truth.old result truth.new }
-{
-    match a {
-        doors_equal::EqvAnswer::Truth(t) => {
-            *truth = t as u64;
-            0
-        }
-        doors_equal::EqvAnswer::Unsound => 20,
-        doors_equal::EqvAnswer::Malformed(_) => 11,
-        doors_equal::EqvAnswer::NoSuchSlot => 14,
-    }
+    tell_done(doors_store::element_store(words, map, bytes, elems, slot, k, kind, a))
 }
 
 // `eqv` of two values: 20, 11 or 14, or 0 and the truth.
@@ -206,24 +195,13 @@ pub fn talvongre_eqv(
 ) -> u32
     ensures { ToldTruth (eqv_call (lists words.now map.now bytes.now elems.now) kind a kind2 a2) truth.old result truth.new }
 {
-    let x = doors_equal::eqv(words, map, bytes, elems, kind, a, kind2, a2);
-    tell_eqv(x, truth)
-}
-
-// The answer of `equal` by number, and 1 or 0 for yes or no.
-fn tell_equal(a: doors_equal::EqualAnswer, truth: &mut u64) -> u32
-    ensures { ToldTruth (equal_answer a) truth.old result truth.new }
-{
-    match a {
-        doors_equal::EqualAnswer::Truth(t) => {
-            *truth = t as u64;
-            0
-        }
-        doors_equal::EqualAnswer::Unsound => 20,
-        doors_equal::EqualAnswer::ShortScratch => 19,
-        doors_equal::EqualAnswer::Malformed(_) => 11,
-        doors_equal::EqualAnswer::NoSuchSlot => 14,
-    }
+    let heap = Lists {
+        words,
+        map,
+        bytes,
+        elems,
+    };
+    tell_truth(doors_equal::eqv(heap, kind, a, kind2, a2), truth)
 }
 
 // `equal` of two values: 20, 19, 11 or 14, or 0 and the truth.
@@ -241,24 +219,13 @@ pub fn talvongre_equal(
 ) -> u32
     ensures { ToldEqual (EqualCall (lists words.now map.now bytes.now elems.now) scratch.old kind a kind2 a2) truth.old result scratch.new truth.new }
 {
-    let x = doors_equal::equal(words, map, bytes, elems, scratch, kind, a, kind2, a2);
-    tell_equal(x, truth)
-}
-
-// A block's answer by number, and its place and size.
-fn tell_block(a: doors::TextBlock, place: &mut u64, size: &mut u64) -> u32
-    ensures { ToldBlock (block_answer a) place.old size.old result place.new size.new }
-{
-    match a {
-        doors::TextBlock::Held(p, n) => {
-            *place = p as u64;
-            *size = n as u64;
-            0
-        }
-        doors::TextBlock::Unsound => 20,
-        doors::TextBlock::NoSuchSlot => 14,
-        doors::TextBlock::WrongCell => 15,
-    }
+    let heap = Lists {
+        words,
+        map,
+        bytes,
+        elems,
+    };
+    tell_truth(doors_equal::equal(heap, scratch, kind, a, kind2, a2), truth)
 }
 
 // "A string or name is read as the part of the byte arena that holds it": 20, 14 or 15, or 0 with that part's place and size.
@@ -273,21 +240,13 @@ pub fn talvongre_text(
 ) -> u32
     ensures { ToldBlock (text_call (lists words.now map.now bytes.now elems.now) slot) place.old size.old result place.new size.new }
 {
-    let a = doors::text_block(words, map, bytes, elems, slot);
-    tell_block(a, place, size)
-}
-
-// A count's answer by number, and the count.
-fn tell_count(a: doors::CountAnswer, count: &mut u64) -> u32
-    ensures { Told (count_answer a) count.old result count.new }
-{
-    match a {
-        doors::CountAnswer::Count(n) => {
-            *count = n;
-            0
-        }
-        doors::CountAnswer::Unsound => 20,
-    }
+    let heap = Lists {
+        words,
+        map,
+        bytes,
+        elems,
+    };
+    tell_block(doors::text_block(heap, slot), place, size)
 }
 
 // The capacity: 20, or 0 and the count.
@@ -300,8 +259,13 @@ pub fn talvongre_capacity(
 ) -> u32
     ensures { Told (capacity_call (lists words.now map.now bytes.now elems.now)) count.old result count.new }
 {
-    let a = doors::capacity(words, map, bytes, elems);
-    tell_count(a, count)
+    let heap = Lists {
+        words,
+        map,
+        bytes,
+        elems,
+    };
+    tell(doors::capacity(heap), count)
 }
 
 // The free count, the free list's length: 20, or 0 and the count.
@@ -314,8 +278,13 @@ pub fn talvongre_free(
 ) -> u32
     ensures { Told (free_call (lists words.now map.now bytes.now elems.now)) count.old result count.new }
 {
-    let a = doors::free(words, map, bytes, elems);
-    tell_count(a, count)
+    let heap = Lists {
+        words,
+        map,
+        bytes,
+        elems,
+    };
+    tell(doors::free(heap), count)
 }
 
 // The used count, capacity less the free list: 20, or 0 and the count.
@@ -328,6 +297,11 @@ pub fn talvongre_used(
 ) -> u32
     ensures { Told (used_call (lists words.now map.now bytes.now elems.now)) count.old result count.new }
 {
-    let a = doors::used(words, map, bytes, elems);
-    tell_count(a, count)
+    let heap = Lists {
+        words,
+        map,
+        bytes,
+        elems,
+    };
+    tell(doors::used(heap), count)
 }

@@ -11,7 +11,7 @@ use lib.ListN.{length, get_or, take}
 use Rattle.laws.specs.Basics.{choose, every}
 use Rattle.laws.proofs.Tests.{both_left}
 use Rattle.laws.proofs.Pointwise.{every_all}
-use Rattle.rules.specs.Refusals.{Answer, accepted, refused, Refusal, unsound, no_such_slot, wrong_cell, told, refusals}
+use Rattle.rules.specs.Refusals.{Answer, accepted, refused, Refusal, bad_setup, unsound, no_such_slot, wrong_cell, told, refusals}
 use Rattle.rules.specs.Map.{set_low_bits, is_allocated}
 use Rattle.rules.specs.Cells.{undefined, Block, Cell, plain, pair, symbol, string, vector}
 use Rattle.rules.specs.Heap.{Heap, capacity, cell_at, in_use, part_of, text_of, free_count, used_count, used_by_map, fresh}
@@ -24,23 +24,21 @@ use Rattle.leaf_cells.specs.declared.VCell.{VCell}
 use Rattle.leaf_cells.specs.declared.VCell.TheVariants as cell
 use Rattle.leaf_cells.proofs.HeapLaws.{looked_up_is, text_is}
 use Rattle.heap_sound_rows.proofs.HeapFacts.{cells_length, free_length, bytes_length}
-use Rattle.doors.specs.declared.SetupAnswer.TheVariants as setups
-use Rattle.doors.specs.declared.CountAnswer.TheVariants as counts
-use Rattle.doors.specs.declared.TextAnswer.{TextAnswer}
-use Rattle.doors.specs.declared.TextBlock.{TextBlock}
-use Rattle.doors.specs.declared.TextBlock.TheVariants as part
-use Rattle.doors.specs.Answers.{set_up, Used, text_answer, block_answer}
+use Rattle.std.specs.Prelude.{Result, Ok}
+use Rattle.refusals.specs.declared.Refusal as code
+use Rattle.refusals.specs.Told.{answer_of}
+use Rattle.doors.specs.Answers.{set_up, Used}
 
 -- ---- setup
 
 module _ (chunk : ℕ) (l : Lent) where
-  pub setup_no : setup_numbers chunk l ≡ false → set_up setups.BadSetup l ≡ setup chunk l
+  pub setup_no : setup_numbers chunk l ≡ false → set_up (refused bad_setup) l ≡ setup chunk l
   unfolding setup
   setup_no e = rw (e, setup)
 
-  pub setup_yes : setup_numbers chunk l ≡ true → (after : Lent) → after ≡ lent_of (rooms_of l) (fresh chunk) → set_up setups.Done after ≡ setup chunk l
+  pub setup_yes : setup_numbers chunk l ≡ true → (after : Lent) → after ≡ lent_of (rooms_of l) (fresh chunk) → set_up (accepted tt) after ≡ setup chunk l
   unfolding setup
-  setup_yes e after p = ap (set_up setups.Done) p ∙ rw (e, setup)
+  setup_yes e after p = ap (set_up (accepted tt)) p ∙ rw (e, setup)
 
 -- ---- what is known of sound lists
 
@@ -81,17 +79,21 @@ module _ (l : Lent) where
   unfolding free_call
   free_is e = count_sound free_count l e (get_or l.words 2 0) (sym (free_length l))
 
-  pub used_unsound : sound l ≡ false → Used l counts.Unsound
+  pub used_unsound : sound l ≡ false → (r : Result ℕ code.Refusal) → answer_of r ≡ refused unsound → Used l r
   unfolding used_call
-  used_unsound e = record { by_list = count_unsound used_count l e; by_map = count_unsound used_by_map l e }
+  used_unsound e r told = record { by_list = told ∙ count_unsound used_count l e; by_map = told ∙ count_unsound used_by_map l e }
 
-  pub used_is : sound l ≡ true → (n : ℕ) → n ≡ set_low_bits (take (get_or l.words 1 0 / 4) l.map) → Used l (counts.Count n)
+  pub used_is : sound l ≡ true → (n : ℕ) → n ≡ set_low_bits (take (get_or l.words 1 0 / 4) l.map) → Used l (Ok n)
   unfolding used_call layout_rules
   used_is e n p =
       record {
         by_list = count_sound used_count l e n (p ∙ used_counts_agree l e);
         by_map = count_sound used_by_map l e n p;
       }
+
+-- what is held of lists holds of the same ones
+pub used_for : (l l' : Lent) (r : Result ℕ code.Refusal) → l ≡ l' → Used l r → Used l' r
+used_for l l' r e u = record { by_list = u.by_list ∙ ap used_call e; by_map = u.by_map ∙ ap (count_call used_by_map) e }
 
 -- ---- texts
 
@@ -187,11 +189,8 @@ module _ (l : Lent) (s : ℕ) where
   unfolding text_part of_answer
   part_empty r e = ap part_by e
 
-  pub part_refused : (x : TextBlock) → block_answer x ≡ text_call l s → ((p n : ℕ) → x ≡ part.Held p n → ⊥) → [] ≡ text_part l s
-  part_refused (part.Held p n) e other = absurd (other p n refl)
-  part_refused part.Unsound e other = part_empty unsound e
-  part_refused part.NoSuchSlot e other = part_empty no_such_slot e
-  part_refused part.WrongCell e other = part_empty wrong_cell e
+  pub part_refused : (r : Refusal) → refused r ≡ text_call l s → [] ≡ text_part l s
+  part_refused r e = part_empty r e
 
   -- the part that holds it is in the lent bytes
   pub part_fits : (b : Block) → accepted b ≡ text_call l s → b.place + b.size ≤ length l.bytes
@@ -209,6 +208,6 @@ module _ (l : Lent) (s : ℕ) where
       ∙ text_is (length l.bytes) h b (within b t) ∙ ap part_by e
 
   -- a block's answer, told
-  pub told_as : (r : TextAnswer) (x y : TextBlock) → block_answer x ≡ text_call l s → x ≡ y → told (text_answer r) ≡ told (block_answer y) → told (text_answer r) ≡ text_told l s
+  pub told_as : (a : Answer (Unit {0})) (x : Answer Block) → x ≡ text_call l s → told a ≡ told x → told a ≡ text_told l s
   unfolding text_told
-  told_as r x y e same t = t ∙ ap (λ (z : TextBlock). told (block_answer z)) (sym same) ∙ ap told e
+  told_as a x e t = t ∙ ap told e

@@ -1,3 +1,3 @@
+pub mod Determined
 pub mod DoorLaws
 pub mod PutLaws
-pub mod Determined

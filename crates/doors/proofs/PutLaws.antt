@@ -1,5 +1,5 @@
 -- The door of put: 20, then 19, then the put behind them. Assumes nothing.
-use mathlib.Core.Path.{◌≡◌, ap, ◌∙◌}
+use mathlib.Core.Path.{◌≡◌}
 use mathlib.Core.Bool.{true, false}
 use mathlib.Core.List.{List}
 use Prim.Native.Nat.{ℕ}
@@ -8,7 +8,7 @@ use borrow.Author.Tests.{ltb-false}
 use lib.Dec.{ltb}
 use lib.ListN.{length, get_or}
 use Rattle.rules.specs.Numbers.{scratch_words}
-use Rattle.rules.specs.Refusals.{Answer, refused, unsound, short_scratch, malformed}
+use Rattle.rules.specs.Refusals.{refused, unsound, short_scratch, malformed}
 use Rattle.rules.specs.Datum.{good, bad, parse}
 use Rattle.rules.specs.Heap.{Heap}
 use Rattle.rules.specs.Layout.{Lent, header}
@@ -38,7 +38,3 @@ module _ (l : Lent) (scratch datum : List ℕ) where
 pub ready : (l : Lent) (scratch : List ℕ) → sound l ≡ true → ltb (length scratch) (scratch_words (get_or l.words 1 0)) ≡ false → Ready l scratch
 unfolding header
 ready l scratch e s = record { lists_sound = e; room = omega (arith, ltb-false (length scratch) (scratch_words (get_or l.words 1 0)) s, capacity_lent l) }
-
--- the heap's own answer told as the door's
-pub answered : (a b : Answer ℕ) (l : Lent) (s : List ℕ) (x : Left ℕ) → a ≡ b → left b l s ≡ x → left a l s ≡ x
-answered a b l s x e p = ap (λ (y : Answer ℕ). left y l s) e ∙ p

@@ -25,6 +25,10 @@ pub asked : (words map bytes elems roots : List ℕ) → every (in_use (heap_of 
 unfolding layout_rules
 asked words map bytes elems roots = refl
 
+pub asked_of : (l l' : Lent) (roots : List ℕ) (b : Bool) → l ≡ l' → {r : Bool} → r ≡ every (in_use (heap_of (lists l.words l.map [] []))) roots → r ≡ b → every (in_use (heap_of l')) roots ≡ b
+asked_of l l' roots b e p t =
+    sym (ap (λ (x : Lent). every (in_use (heap_of x)) roots) e) ∙ sym (asked l.words l.map l.bytes l.elems roots) ∙ sym p ∙ t
+
 pub fours : (l : Lent) → sound l ≡ true → get_or l.words 1 0 % 4 ≡ 0
 unfolding header
 fours l e = ap (λ (n : ℕ). n % 4) (sym (capacity_lent l)) ∙ capacity_fours l (clauses l e)

@@ -5,39 +5,25 @@
 
 ghost use Rattle.std.specs.Prelude.{◌≡◌};
 ghost use Rattle.rules.specs.Calls.{left, collect_call};
-ghost use Rattle.heap_sound_rows.specs.Rows.{lists};
-ghost use Rattle.doors_collect.specs.Answers.{collect_answer};
+ghost use Rattle.leaf_lists.specs.Lists.{held, SameLists};
+ghost use Rattle.refusals.specs.Told.{answer_of};
 
-// What a collection answers: it is done, or 20, 19 or 14.
-#[derive(Clone, Copy)]
-pub enum CollectAnswer {
-    Done,
-    Unsound,
-    ShortScratch,
-    NoSuchSlot,
-}
+use leaf_lists::ListsMut;
+use refusals::Refusal;
 
 // Keeps what the roots reach. "A collection refuses by 14 a root that is not in use": before anything is marked.
-pub fn collect(
-    words: &mut [u64],
-    map: &mut [u8],
-    bytes: &mut [u8],
-    elems: &mut [u64],
-    scratch: &mut [u64],
-    roots: &[u64],
-) -> CollectAnswer
-    ensures { left (collect_answer result) (lists words.new map.new bytes.new elems.new) scratch.new ≡ collect_call (lists words.old map.old bytes.old elems.old) scratch.old roots.now }
+pub fn collect(heap: &mut ListsMut<'_>, scratch: &mut [u64], roots: &[u64]) -> Result<(), Refusal>
+    ensures same { SameLists heap.old heap.new }
+    ensures leaves { left (answer_of result) (held heap.new) scratch.new ≡ collect_call (held heap.old) scratch.old roots.now }
 {
-    if !heap_sound::is_sound(words, map, bytes, elems) {
-        return CollectAnswer::Unsound;
+    let sound = heap_sound::checked(heap.lists())?;
+    if heap_given::scratch_short(sound, scratch.len()) {
+        return Err(Refusal::ShortScratch);
     }
-    if heap_given::scratch_short(words, map, bytes, elems, scratch.len()) {
-        return CollectAnswer::ShortScratch;
-    }
-    if !heap_mark::roots_in_use(words, map, roots) {
+    if !heap_mark::roots_in_use(sound.lists.words, sound.lists.map, roots) {
         leaf_clear::clear_words(scratch);
-        return CollectAnswer::NoSuchSlot;
+        return Err(Refusal::NoSuchSlot);
     }
-    heap_collect::collect(words, map, bytes, elems, scratch, roots);
-    CollectAnswer::Done
+    heap_collect::collect(heap, scratch, roots);
+    Ok(())
 }

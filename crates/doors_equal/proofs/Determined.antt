@@ -9,7 +9,7 @@ use lib.Dec.{ltb}
 use lib.ListN.{length}
 use Rattle.laws.specs.Basics.{both}
 use Rattle.rules.specs.Numbers.{scratch_words}
-use Rattle.rules.specs.Refusals.{Refusal, bad_setup, unsound, short_scratch, malformed, over_limit, early_label, no_such_slot, wrong_cell, no_slots, no_room, short_output, Answer, accepted, refused, Test, ◌⇒◌, unless, refusals}
+use Rattle.rules.specs.Refusals.{Refusal, unsound, short_scratch, no_such_slot, Answer, accepted, refused, Test, ◌⇒◌, unless, refusals}
 use Rattle.rules.specs.Cells.{Value}
 use Rattle.rules.specs.Heap.{Heap, capacity}
 use Rattle.rules.specs.Layout.{Lent, heap_of}
@@ -17,74 +17,17 @@ use Rattle.rules.specs.Sound.{sound}
 use Rattle.rules.specs.Equal.{Equal}
 use Rattle.rules.specs.Calls.{eqv_call, EqualLeft, EqualValues, EqualCall, cleared, given_value, of_answer, value_in_use}
 use Rattle.equal_laws.proofs.Levels.{equal_one}
-use Rattle.heap_given.proofs.FaultLaws.{from_fault, fault_back}
-use Rattle.doors_equal.specs.declared.EqvAnswer.{EqvAnswer}
-use Rattle.doors_equal.specs.declared.EqvAnswer.TheVariants as eqvs
-use Rattle.doors_equal.specs.declared.EqualAnswer.{EqualAnswer}
-use Rattle.doors_equal.specs.declared.EqualAnswer.TheVariants as equals
-use Rattle.doors_equal.specs.Answers.{eqv_answer, equal_answer, equal_left}
+use Rattle.std.specs.Prelude.{Result}
+use Rattle.refusals.specs.declared.Refusal as code
+use Rattle.refusals.specs.Told.{answer_of}
+use Rattle.heap_given.proofs.AnswerLaws.{one_answer}
+use Rattle.doors_equal.specs.Answers.{equal_left}
 use Rattle.doors_equal.specs.Behind.{EqualSecond}
 
 -- ---- eqv
 
--- of the refusals that `eqv` does not give none is asked for
-refused_eqv : Refusal → EqvAnswer
-unfolding from_fault
-refused_eqv bad_setup = eqvs.Unsound
-refused_eqv unsound = eqvs.Unsound
-refused_eqv short_scratch = eqvs.Unsound
-refused_eqv (malformed f n) = eqvs.Malformed (from_fault f)
-refused_eqv over_limit = eqvs.Unsound
-refused_eqv early_label = eqvs.Unsound
-refused_eqv no_such_slot = eqvs.NoSuchSlot
-refused_eqv wrong_cell = eqvs.Unsound
-refused_eqv no_slots = eqvs.Unsound
-refused_eqv no_room = eqvs.Unsound
-refused_eqv short_output = eqvs.Unsound
-
-from_eqv : Answer Bool → EqvAnswer
-unfolding refused_eqv
-from_eqv (accepted b) = eqvs.Truth b
-from_eqv (refused r) = refused_eqv r
-
-eqv_back : (r : EqvAnswer) → from_eqv (eqv_answer r) ≡ r
-unfolding from_eqv
-eqv_back (eqvs.Truth b) = refl
-eqv_back eqvs.Unsound = refl
-eqv_back (eqvs.Malformed f) = ap eqvs.Malformed (fault_back f)
-eqv_back eqvs.NoSuchSlot = refl
-
-pub eqv_determined : (l : Lent) (kind a kind' a' : ℕ) (r r' : EqvAnswer) → eqv_answer r ≡ eqv_call l kind a kind' a' → eqv_answer r' ≡ eqv_call l kind a kind' a' → r ≡ r'
-eqv_determined l kind a kind' a' r r' one two = sym (eqv_back r) ∙ ap from_eqv (one ∙ sym two) ∙ eqv_back r'
-
--- ---- equal
-
--- of the refusals that `equal` does not give none is asked for
-refused_equal : Refusal → EqualAnswer
-refused_equal bad_setup = equals.Unsound
-refused_equal unsound = equals.Unsound
-refused_equal short_scratch = equals.ShortScratch
-refused_equal (malformed f n) = equals.Malformed (from_fault f)
-refused_equal over_limit = equals.Unsound
-refused_equal early_label = equals.Unsound
-refused_equal no_such_slot = equals.NoSuchSlot
-refused_equal wrong_cell = equals.Unsound
-refused_equal no_slots = equals.Unsound
-refused_equal no_room = equals.Unsound
-refused_equal short_output = equals.Unsound
-
-from_equal : Answer Bool → EqualAnswer
-unfolding refused_equal
-from_equal (accepted b) = equals.Truth b
-from_equal (refused r) = refused_equal r
-
-equal_back : (r : EqualAnswer) → from_equal (equal_answer r) ≡ r
-unfolding from_equal
-equal_back (equals.Truth b) = refl
-equal_back equals.Unsound = refl
-equal_back equals.ShortScratch = refl
-equal_back (equals.Malformed f) = ap equals.Malformed (fault_back f)
-equal_back equals.NoSuchSlot = refl
+pub eqv_determined : (l : Lent) (kind a kind' a' : ℕ) (r r' : Result Bool code.Refusal) → answer_of r ≡ eqv_call l kind a kind' a' → answer_of r' ≡ eqv_call l kind a kind' a' → r ≡ r'
+eqv_determined l kind a kind' a' r r' one two = one_answer r r' (one ∙ sym two)
 
 -- ---- the rules' call has one outcome
 
@@ -142,8 +85,8 @@ module _ (r r' : EqualLeft) where
       (λ n x y. x ∙ sym y))
       (λ n x y. x ∙ sym y)
 
-module _ (l : Lent) (scratch : List ℕ) (kind a kind' a' : ℕ) (r r' : EqualAnswer) (end end' : List ℕ) where
-  pub equal_determined : EqualCall l scratch kind a kind' a' (equal_left r end) → EqualCall l scratch kind a kind' a' (equal_left r' end') → (r ≡ r') × (end ≡ end')
+module _ (l : Lent) (scratch : List ℕ) (kind a kind' a' : ℕ) (r r' : Result Bool code.Refusal) (end end' : List ℕ) where
+  pub equal_determined : EqualCall l scratch kind a kind' a' (equal_left (answer_of r) end) → EqualCall l scratch kind a kind' a' (equal_left (answer_of r') end') → (r ≡ r') × (end ≡ end')
   equal_determined one two =
-      let same = one_call (equal_left r end) (equal_left r' end') l scratch kind a kind' a' one two in
-      (sym (equal_back r) ∙ ap (λ (x : EqualLeft). from_equal x.answer) same ∙ equal_back r', ap (λ (x : EqualLeft). x.scratch) same)
+      let same = one_call (equal_left (answer_of r) end) (equal_left (answer_of r') end') l scratch kind a kind' a' one two in
+      (one_answer r r' (ap (λ (x : EqualLeft). x.answer) same), ap (λ (x : EqualLeft). x.scratch) same)

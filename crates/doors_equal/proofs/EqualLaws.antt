@@ -12,6 +12,7 @@ use Rattle.rules.specs.Numbers.{scratch_words}
 use Rattle.rules.specs.Refusals.{Answer, accepted, refused, Refusal, unsound, short_scratch, no_such_slot, ◌⇒◌, unless, refusals}
 use Rattle.rules.specs.Cells.{Value}
 use Rattle.rules.specs.Heap.{capacity}
+use Rattle.rules.specs.Heap.{Heap}
 use Rattle.rules.specs.Layout.{Lent, heap_of}
 use Rattle.rules.specs.Sound.{sound}
 use Rattle.rules.specs.Equal.{Equal}
@@ -122,3 +123,14 @@ module _ (l : Lent) (ok : sound l ≡ true) (scratch : List ℕ) (v w : Value) w
 pub roomy : (l : Lent) (scratch : List ℕ) → ltb (length scratch) (scratch_words (get_or l.words 1 0)) ≡ false → Room l scratch
 roomy l scratch e =
     record { long = omega (arith, ltb-false (length scratch) (scratch_words (get_or l.words 1 0)) e, cells_length l) }
+
+-- of the scratch the comparison takes only the length
+abbrev by_clean : Heap → List ℕ → Value → Value → EqualLeft → Type 0
+by_clean h clean v w r =
+    unless ((not (both (value_in_use h v) (value_in_use h w)) ⇒ no_such_slot) ∷ [])
+    ((truth : Bool) × Equal h v w truth × (r ≡ record { answer = accepted truth; scratch = clean }))
+    (λ n. r ≡ stopped n clean)
+
+pub same_scratch : (h : Heap) (s s' : List ℕ) (v w : Value) (r : EqualLeft) → length s ≡ length s' → EqualValues h s v w r → EqualValues h s' v w r
+unfolding EqualValues cleared
+same_scratch h s s' v w r e x = subst (λ (n : ℕ). by_clean h (zeros n) v w r) e x

@@ -3,179 +3,81 @@
 // they stood." The heap is only read.
 #![tactic(auto)]
 
-ghost use Rattle.std.specs.Prelude.{◌≡◌, true, false, ltb, length, get_or};
+ghost use Rattle.std.specs.Prelude.{◌≡◌, false, ltb, length, get_or};
 ghost use Rattle.rules.specs.Numbers.{scratch_words};
 ghost use Rattle.rules.specs.Layout.{heap_of};
-ghost use Rattle.rules.specs.Sound.{sound};
 ghost use Rattle.rules.specs.Calls.{eqv_call, EqualValues, EqualCall};
 ghost use Rattle.leaf_cells.specs.Elements.{value_of};
-ghost use Rattle.heap_sound_rows.specs.Rows.{lists};
-ghost use Rattle.doors_equal.specs.Answers.{eqv_answer, equal_left};
-ghost use Rattle.doors_equal.specs.Behind.{eqv_behind, second_behind, EqualSecond};
+ghost use Rattle.leaf_lists.specs.Lists.{lent_of};
+ghost use Rattle.refusals.specs.Told.{answer_of};
+ghost use Rattle.doors_equal.specs.Answers.{equal_left};
+ghost use Rattle.doors_equal.specs.Behind.{eqv_behind};
 
-// What `eqv` answers: whether the two are alike, or 20, 11 with what is wrong, or 14.
-#[derive(Clone, Copy)]
-pub enum EqvAnswer {
-    Truth(bool),
-    Unsound,
-    Malformed(leaf_nodes::Fault),
-    NoSuchSlot,
-}
+use heap_sound::Sound;
+use leaf_cells::Value;
+use leaf_lists::Lists;
+use refusals::Refusal;
 
 // `eqv` of two values that were given: 14.
-fn eqv_values(
-    words: &[u64],
-    map: &[u8],
-    bytes: &[u8],
-    elems: &[u64],
-    v: leaf_cells::Value,
-    w: leaf_cells::Value,
-) -> EqvAnswer
-    requires { sound (lists words.now map.now bytes.now elems.now) ≡ true }
-    ensures { eqv_answer result ≡ eqv_behind (lists words.now map.now bytes.now elems.now) (value_of v) (value_of w) }
+fn eqv_values(heap: Sound<'_>, v: Value, w: Value) -> Result<bool, Refusal>
+    ensures { answer_of result ≡ eqv_behind (lent_of heap.entry.lists) (value_of v) (value_of w) }
 {
-    let capacity = words[1] as usize;
+    let map = heap.lists.map;
+    let capacity = heap.lists.words[1] as usize;
     if !heap_given::value_in_use(map, capacity, v) {
-        return EqvAnswer::NoSuchSlot;
+        return Err(Refusal::NoSuchSlot);
     }
     if !heap_given::value_in_use(map, capacity, w) {
-        return EqvAnswer::NoSuchSlot;
+        return Err(Refusal::NoSuchSlot);
     }
-    EqvAnswer::Truth(heap_eqv::eqv(words, map, bytes, elems, v, w))
+    Ok(heap_eqv::eqv(heap.lists, v, w))
 }
 
-// `eqv` of a value that was given and one still to be tested: 11, 14.
-fn eqv_second(
-    words: &[u64],
-    map: &[u8],
-    bytes: &[u8],
-    elems: &[u64],
-    v: leaf_cells::Value,
-    kind: u64,
-    a: u64,
-) -> EqvAnswer
-    requires { sound (lists words.now map.now bytes.now elems.now) ≡ true }
-    ensures { eqv_answer result ≡ second_behind (lists words.now map.now bytes.now elems.now) (value_of v) kind a }
+// Whether two values are `eqv`: 20, 11 or 14 where not both may be compared. It takes no scratch.
+pub fn eqv(heap: Lists<'_>, kind: u64, a: u64, kind2: u64, a2: u64) -> Result<bool, Refusal>
+    ensures { answer_of result ≡ eqv_call (lent_of heap.entry) kind a kind2 a2 }
 {
-    let given = heap_given::given_value(kind, a);
-    match given {
-        heap_given::ValueAnswer::Given(w) => eqv_values(words, map, bytes, elems, v, w),
-        heap_given::ValueAnswer::Malformed(f) => EqvAnswer::Malformed(f),
-    }
+    let sound = heap_sound::checked(heap)?;
+    let v = heap_given::given_value(kind, a)?;
+    let w = heap_given::given_value(kind2, a2)?;
+    eqv_values(sound, v, w)
 }
 
-// Whether two values are `eqv`. It takes no scratch.
-pub fn eqv(
-    words: &[u64],
-    map: &[u8],
-    bytes: &[u8],
-    elems: &[u64],
-    kind: u64,
-    a: u64,
-    kind2: u64,
-    a2: u64,
-) -> EqvAnswer
-    ensures { eqv_answer result ≡ eqv_call (lists words.now map.now bytes.now elems.now) kind a kind2 a2 }
+// `equal` of two values that were given, in scratch that is clear: 14.
+fn equal_values(heap: Sound<'_>, scratch: &mut [u64], v: Value, w: Value) -> Result<bool, Refusal>
+    requires { ltb (length scratch.old) (scratch_words (get_or heap.lists.words.now 1 0)) ≡ false }
+    ensures { EqualValues (heap_of (lent_of heap.entry.lists)) scratch.old (value_of v) (value_of w) (equal_left (answer_of result) scratch.new) }
 {
-    if !heap_sound::is_sound(words, map, bytes, elems) {
-        return EqvAnswer::Unsound;
-    }
-    let first = heap_given::given_value(kind, a);
-    match first {
-        heap_given::ValueAnswer::Given(v) => eqv_second(words, map, bytes, elems, v, kind2, a2),
-        heap_given::ValueAnswer::Malformed(f) => EqvAnswer::Malformed(f),
-    }
-}
-
-// What `equal` answers: whether the two are equal, or 20, 19, 11 with what is wrong, or 14.
-#[derive(Clone, Copy)]
-pub enum EqualAnswer {
-    Truth(bool),
-    Unsound,
-    ShortScratch,
-    Malformed(leaf_nodes::Fault),
-    NoSuchSlot,
-}
-
-// `equal` of two values that were given: 14.
-fn equal_values(
-    words: &[u64],
-    map: &[u8],
-    bytes: &[u8],
-    elems: &[u64],
-    scratch: &mut [u64],
-    v: leaf_cells::Value,
-    w: leaf_cells::Value,
-) -> EqualAnswer
-    requires elems_value { sound (lists words.now map.now bytes.now elems.now) ≡ true }
-    requires words_value { ltb (length scratch.old) (scratch_words (get_or words.now 1 0)) ≡ false }
-    ensures { EqualValues (heap_of (lists words.now map.now bytes.now elems.now)) scratch.old (value_of v) (value_of w) (equal_left result scratch.new) }
-{
-    let capacity = words[1] as usize;
+    let map = heap.lists.map;
+    let capacity = heap.lists.words[1] as usize;
     if !heap_given::value_in_use(map, capacity, v) {
         leaf_clear::clear_words(scratch);
-        return EqualAnswer::NoSuchSlot;
+        return Err(Refusal::NoSuchSlot);
     }
     if !heap_given::value_in_use(map, capacity, w) {
         leaf_clear::clear_words(scratch);
-        return EqualAnswer::NoSuchSlot;
+        return Err(Refusal::NoSuchSlot);
     }
-    EqualAnswer::Truth(heap_equal::equal(words, map, bytes, elems, scratch, v, w))
+    Ok(heap_equal::equal(heap.lists, scratch, v, w))
 }
 
-// `equal` of a value that was given and one still to be tested: 11, 14.
-fn equal_second(
-    words: &[u64],
-    map: &[u8],
-    bytes: &[u8],
-    elems: &[u64],
-    scratch: &mut [u64],
-    v: leaf_cells::Value,
-    kind: u64,
-    a: u64,
-) -> EqualAnswer
-    requires elems_value { sound (lists words.now map.now bytes.now elems.now) ≡ true }
-    requires words_value { ltb (length scratch.old) (scratch_words (get_or words.now 1 0)) ≡ false }
-    ensures { EqualSecond (heap_of (lists words.now map.now bytes.now elems.now)) scratch.old (value_of v) kind a (equal_left result scratch.new) }
-{
-    let given = heap_given::given_value(kind, a);
-    match given {
-        heap_given::ValueAnswer::Given(w) => equal_values(words, map, bytes, elems, scratch, v, w),
-        heap_given::ValueAnswer::Malformed(f) => {
-            leaf_clear::clear_words(scratch);
-            EqualAnswer::Malformed(f)
-        }
-    }
-}
-
-// Whether two values are `equal`.
+// Whether two values are `equal`: 20, 19, 11 or 14 where not both may be compared.
 pub fn equal(
-    words: &[u64],
-    map: &[u8],
-    bytes: &[u8],
-    elems: &[u64],
+    heap: Lists<'_>,
     scratch: &mut [u64],
     kind: u64,
     a: u64,
     kind2: u64,
     a2: u64,
-) -> EqualAnswer
-    ensures { EqualCall (lists words.now map.now bytes.now elems.now) scratch.old kind a kind2 a2 (equal_left result scratch.new) }
+) -> Result<bool, Refusal>
+    ensures { EqualCall (lent_of heap.entry) scratch.old kind a kind2 a2 (equal_left (answer_of result) scratch.new) }
 {
-    if !heap_sound::is_sound(words, map, bytes, elems) {
-        return EqualAnswer::Unsound;
+    let sound = heap_sound::checked(heap)?;
+    if heap_given::scratch_short(sound, scratch.len()) {
+        return Err(Refusal::ShortScratch);
     }
-    if heap_given::scratch_short(words, map, bytes, elems, scratch.len()) {
-        return EqualAnswer::ShortScratch;
-    }
-    let first = heap_given::given_value(kind, a);
-    match first {
-        heap_given::ValueAnswer::Given(v) => equal_second(
-            words, map, bytes, elems, scratch, v, kind2, a2,
-        ),
-        heap_given::ValueAnswer::Malformed(f) => {
-            leaf_clear::clear_words(scratch);
-            EqualAnswer::Malformed(f)
-        }
-    }
+    leaf_clear::clear_words(scratch);
+    let v = heap_given::given_value(kind, a)?;
+    let w = heap_given::given_value(kind2, a2)?;
+    equal_values(sound, scratch, v, w)
 }

@@ -1,16 +1,20 @@
 -- The door of reading: 20, then 19, then 11, then 14, then the read behind them. Assumes nothing.
 use mathlib.Core.Path.{◌≡◌, sym, ap, ◌∙◌}
 use mathlib.Core.Bool.{Bool, true, false}
-use mathlib.Core.List.{List}
+use mathlib.Core.List.{List, [], ◌∷◌, ◌++◌}
+use mathlib.Core.Option.{none, some}
 use Prim.Native.Nat.{ℕ}
 use native.Mathlib.Omega.{arith}
 use borrow.Author.Tests.{ltb-false}
 use lib.Dec.{ltb}
-use lib.ListN.{length, get_or}
+use lib.ListN.{length, get_or, drop}
 use Rattle.laws.specs.Basics.{zeros}
 use Rattle.rules.specs.Numbers.{scratch_words}
-use Rattle.rules.specs.Refusals.{Answer, accepted, refused, Refusal, unsound, short_scratch, no_such_slot, refusals}
+use Rattle.rules.specs.Refusals.{Answer, accepted, refused, Refusal, unsound, short_scratch, over_limit, no_such_slot, short_output, ◌⇒◌, unless, refusals}
 use Rattle.rules.specs.Cells.{Value}
+use Rattle.rules.specs.Datum.{encode}
+use Rattle.rules.specs.Heap.{Heap}
+use Rattle.rules.specs.Read.{reading}
 use Rattle.rules.specs.Layout.{Lent, rooms_of, heap_of}
 use Rattle.rules.specs.Sound.{sound}
 use Rattle.rules.specs.Calls.{ReadLeft, cleared, given_value, of_answer, value_in_use, read_value, read_call}
@@ -71,6 +75,21 @@ module _ (l : Lent) (ok : sound l ≡ true) (scratch out : List ℕ) (v : Value)
       sound_held l ok v (used_by true e) (length scratch)
       (omega (arith, ltb-false (length scratch) (scratch_words (get_or l.words 1 0)) long, cells_length l))
 
--- the heap's own answer told as the door's
-pub answered : (a b : Answer ℕ) (scratch out : List ℕ) (x : ReadLeft) → a ≡ b → ◌≡◌ {A = ReadLeft} (record { answer = b; scratch = scratch; out = out }) x → ◌≡◌ {A = ReadLeft} (record { answer = a; scratch = scratch; out = out }) x
-answered a b scratch out x e p = ap (λ (y : Answer ℕ). record { answer = y; scratch = scratch; out = out }) e ∙ p
+-- of the scratch a read takes only the length
+abbrev by_clean : Heap → List ℕ → List ℕ → Value → ReadLeft
+by_clean h clean out v =
+    elim (value_in_use h v) [
+      | false ↦ stopped no_such_slot clean out
+      | true ↦
+          elim (reading h v) [
+            | none ↦ stopped over_limit clean out
+            | some d ↦
+                unless ((ltb (length out) (length (encode d)) ⇒ short_output) ∷ [])
+                (record { answer = accepted (length (encode d)); scratch = clean; out = encode d ++ drop (length (encode d)) out })
+                (λ r. stopped r clean out)
+          ]
+    ]
+
+pub same_scratch : (h : Heap) (s s' out : List ℕ) (v : Value) → length s ≡ length s' → read_value h s out v ≡ read_value h s' out v
+unfolding read_value cleared refusals
+same_scratch h s s' out v e = ap (λ (n : ℕ). by_clean h (zeros n) out v) e

@@ -94,10 +94,10 @@ module _ (l : Lent) (s : ℕ) (ok : sound l ≡ true) where
       unfolding refusals
       cell_names_free n = cell_tested false (both_by true _ u ∙ sym (cell_used l ok c) ∙ n)
 
-      pub cell_passed : cell_named (get_or l.words 1 0) l.map c ≡ true → (x y : Answer (Unit {0})) (after : Lent) → x ≡ y → stored y after ≡ store_cell l s c → stored x after ≡ cell_behind l s c
+      pub cell_passed : cell_named (get_or l.words 1 0) l.map c ≡ true → (x : Answer (Unit {0})) (after : Lent) → stored x after ≡ store_cell l s c → stored x after ≡ cell_behind l s c
       unfolding refusals store_cell
-      cell_passed n x y after e p =
-          ap (λ (z : Answer (Unit {0})). stored z after) e ∙ p
+      cell_passed n x after p =
+          p
           ∙ cell_tested true (both_by true _ u ∙ sym (cell_used l ok c) ∙ n)
 
   module _ (k : ℕ) (v : Value) where
@@ -119,8 +119,8 @@ module _ (l : Lent) (s : ℕ) (ok : sound l ≡ true) where
       unfolding refusals
       element_name_free n = element_tested false (both_by true _ u ∙ sym (value_used l ok v) ∙ n)
 
-      pub element_passed : named (get_or l.words 1 0) l.map v ≡ true → (x y : Answer (Unit {0})) (after : Lent) → x ≡ y → stored y after ≡ store_element l (heap_of l) s k v → stored x after ≡ element_behind l s k v
+      pub element_passed : named (get_or l.words 1 0) l.map v ≡ true → (x : Answer (Unit {0})) (after : Lent) → stored x after ≡ store_element l (heap_of l) s k v → stored x after ≡ element_behind l s k v
       unfolding refusals
-      element_passed n x y after e p =
-          ap (λ (z : Answer (Unit {0})). stored z after) e ∙ p
+      element_passed n x after p =
+          p
           ∙ element_tested true (both_by true _ u ∙ sym (value_used l ok v) ∙ n)

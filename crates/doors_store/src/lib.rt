@@ -8,30 +8,13 @@ ghost use Rattle.rules.specs.Sound.{sound};
 ghost use Rattle.rules.specs.Calls.{stored, cell_store, element_store};
 ghost use Rattle.leaf_cells.specs.Cells.{cell_of};
 ghost use Rattle.leaf_cells.specs.Elements.{value_of};
+ghost use Rattle.refusals.specs.Told.{answer_of};
 ghost use Rattle.heap_sound_rows.specs.Rows.{lists};
-ghost use Rattle.heap_store.specs.Stores.{store_told};
-ghost use Rattle.doors_store.specs.Answers.{store_answer};
 ghost use Rattle.doors_store.specs.Behind.{cell_behind, element_behind};
 
-// What a store answers: it is done, or 20, 11 with what is wrong, 14 or 15.
-#[derive(Clone, Copy)]
-pub enum StoreAnswer {
-    Done,
-    Unsound,
-    Malformed(leaf_nodes::Fault),
-    NoSuchSlot,
-    WrongCell,
-}
-
-// The heap's own answer as the door's.
-fn store_answer(a: heap_store::StoreAnswer) -> StoreAnswer
-    ensures { store_answer result ≡ store_told a }
-{
-    match a {
-        heap_store::StoreAnswer::Done => StoreAnswer::Done,
-        heap_store::StoreAnswer::WrongCell => StoreAnswer::WrongCell,
-    }
-}
+use leaf_cells::{VCell, Value};
+use leaf_lists::Lists;
+use refusals::Refusal;
 
 // A cell store behind 20 and 11: 14, 15.
 fn store_cell(
@@ -40,22 +23,23 @@ fn store_cell(
     bytes: &[u8],
     elems: &[u64],
     slot: u64,
-    new: leaf_cells::VCell,
-) -> StoreAnswer
+    new: VCell,
+) -> Result<(), Refusal>
     requires { sound (lists words.old map.now bytes.now elems.now) ≡ true }
-    ensures { stored (store_answer result) (lists words.new map.now bytes.now elems.now) ≡ cell_behind (lists words.old map.now bytes.now elems.now) slot (cell_of new) }
+    ensures { stored (answer_of result) (lists words.new map.now bytes.now elems.now) ≡ cell_behind (lists words.old map.now bytes.now elems.now) slot (cell_of new) }
 {
     let capacity = words[1] as usize;
     if !heap_sound_cells::in_use(map, capacity, slot) {
-        return StoreAnswer::NoSuchSlot;
+        return Err(Refusal::NoSuchSlot);
     }
     if !heap_given::cell_in_use(map, capacity, new) {
-        return StoreAnswer::NoSuchSlot;
+        return Err(Refusal::NoSuchSlot);
     }
-    store_answer(heap_store::cell_store(words, map, bytes, elems, slot as usize, new))
+    heap_store::cell_store(words, map, bytes, elems, slot as usize, new)
 }
 
 // "Cell store: a scalar or a pair of used slots into a used slot."
+// Kept: four lists, as C lends the three that stay to be read only (the C interface).
 pub fn cell_store(
     words: &mut [u64],
     map: &[u8],
@@ -65,17 +49,17 @@ pub fn cell_store(
     kind: u64,
     a: u64,
     b: u64,
-) -> StoreAnswer
-    ensures { stored (store_answer result) (lists words.new map.now bytes.now elems.now) ≡ cell_store (lists words.old map.now bytes.now elems.now) slot kind a b }
+) -> Result<(), Refusal>
+    ensures { stored (answer_of result) (lists words.new map.now bytes.now elems.now) ≡ cell_store (lists words.old map.now bytes.now elems.now) slot kind a b }
 {
-    if !heap_sound::is_sound(words, map, bytes, elems) {
-        return StoreAnswer::Unsound;
-    }
-    let given = heap_given::given_cell(kind, a, b);
-    match given {
-        heap_given::CellAnswer::Given(new) => store_cell(words, map, bytes, elems, slot, new),
-        heap_given::CellAnswer::Malformed(f) => StoreAnswer::Malformed(f),
-    }
+    heap_sound::checked(Lists {
+        words,
+        map,
+        bytes,
+        elems,
+    })?;
+    let new = heap_given::given_cell(kind, a, b)?;
+    store_cell(words, map, bytes, elems, slot, new)
 }
 
 // An element store behind 20 and 11: 14, 15.
@@ -86,22 +70,23 @@ fn store_element(
     elems: &mut [u64],
     slot: u64,
     k: u64,
-    new: leaf_cells::Value,
-) -> StoreAnswer
+    new: Value,
+) -> Result<(), Refusal>
     requires { sound (lists words.now map.now bytes.now elems.old) ≡ true }
-    ensures { stored (store_answer result) (lists words.now map.now bytes.now elems.new) ≡ element_behind (lists words.now map.now bytes.now elems.old) slot k (value_of new) }
+    ensures { stored (answer_of result) (lists words.now map.now bytes.now elems.new) ≡ element_behind (lists words.now map.now bytes.now elems.old) slot k (value_of new) }
 {
     let capacity = words[1] as usize;
     if !heap_sound_cells::in_use(map, capacity, slot) {
-        return StoreAnswer::NoSuchSlot;
+        return Err(Refusal::NoSuchSlot);
     }
     if !heap_given::value_in_use(map, capacity, new) {
-        return StoreAnswer::NoSuchSlot;
+        return Err(Refusal::NoSuchSlot);
     }
-    store_answer(heap_store::element_store(words, map, bytes, elems, slot as usize, k, new))
+    heap_store::element_store(words, map, bytes, elems, slot as usize, k, new)
 }
 
 // "Element store: a scalar or a used slot", as an element of the vector in a used slot.
+// Kept: four lists, as C lends the three that stay to be read only (the C interface).
 pub fn element_store(
     words: &[u64],
     map: &[u8],
@@ -111,17 +96,15 @@ pub fn element_store(
     k: u64,
     kind: u64,
     a: u64,
-) -> StoreAnswer
-    ensures { stored (store_answer result) (lists words.now map.now bytes.now elems.new) ≡ element_store (lists words.now map.now bytes.now elems.old) slot k kind a }
+) -> Result<(), Refusal>
+    ensures { stored (answer_of result) (lists words.now map.now bytes.now elems.new) ≡ element_store (lists words.now map.now bytes.now elems.old) slot k kind a }
 {
-    if !heap_sound::is_sound(words, map, bytes, elems) {
-        return StoreAnswer::Unsound;
-    }
-    let given = heap_given::given_value(kind, a);
-    match given {
-        heap_given::ValueAnswer::Given(new) => store_element(
-            words, map, bytes, elems, slot, k, new,
-        ),
-        heap_given::ValueAnswer::Malformed(f) => StoreAnswer::Malformed(f),
-    }
+    heap_sound::checked(Lists {
+        words,
+        map,
+        bytes,
+        elems,
+    })?;
+    let new = heap_given::given_value(kind, a)?;
+    store_element(words, map, bytes, elems, slot, k, new)
 }

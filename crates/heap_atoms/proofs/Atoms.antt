@@ -18,12 +18,15 @@ use Rattle.leaf_cells.specs.declared.Value.TheVariants as value
 use Rattle.leaf_symbols.proofs.TableLaws.{TableFits}
 use Rattle.heap_labels.specs.Labels.{labels_in}
 use Rattle.heap_steps.specs.Steps.{Open, TextOpen, StringPut, SymbolOpen, SymbolReady, SymbolPut}
-use Rattle.leaf_nodes.specs.Reads.{ReadAs, shown, scalar_of, in_order, text_of, text_length, reads_rules}
+use mathlib.Core.Logic.{◌⊎◌, inl, inr}
+use Rattle.std.specs.Prelude.{Ok, Err}
+use Rattle.leaf_nodes.specs.declared.Fault.{Fault}
+use Rattle.leaf_nodes.specs.Reads.{fault_of, ReadAs, shown, scalar_of, in_order, text_of, text_length, reads_rules}
 use Rattle.leaf_nodes.specs.declared.Node.TheVariants as node
 use Rattle.leaf_nodes.specs.declared.Node.{Node}
 use Rattle.leaf_nodes.specs.declared.Read.{Read}
 use Rattle.leaf_nodes.proofs.Laws.{plain_value}
-use Rattle.heap_atoms.specs.Makings.{head_of, Within}
+use Rattle.heap_atoms.specs.Makings.{an_atom, head_of, Within}
 use Rattle.heap_atoms.specs.declared.Put as code
 use Rattle.heap_atoms.specs.Tasks.{AtomTask, AtomDone}
 use Rattle.heap_atoms.proofs.Keeping.{some_available, able_sized, able_most, new_cell_used, able_bytes}
@@ -34,16 +37,30 @@ use borrow.Author.Tests.{ltb-true}
 use Rattle.laws.specs.Basics.{every, basics}
 use Rattle.laws.proofs.Tests.{both_left, both_right}
 
-pub node_shape : (bs : List ℕ) (r : Read) (n : Node) → r.node ≡ n → ReadAs bs r → head_of (shown n (text_of bs r.node r.size) (drop r.size bs)) ≡ head_of (read_node bs)
+pub node_shape : (bs : List ℕ) (r : Read) (n : Node) → r.node ≡ n → ReadAs bs (Ok r) → head_of (shown n (text_of bs r.node r.size) (drop r.size bs)) ≡ head_of (read_node bs)
 unfolding reads_rules
 node_shape bs r n e q =
-    ap (λ (x : Node). head_of (shown x (text_of bs r.node r.size) (drop r.size bs))) (sym e) ∙ ap head_of q.shows.is
+    ap (λ (x : Node). head_of (shown x (text_of bs r.node r.size) (drop r.size bs))) (sym e) ∙ ap head_of q.is
+
+pub fault_shape : (bs : List ℕ) (f : Fault) → ReadAs bs (Err f) → an_atom ≡ head_of (read_node bs)
+unfolding reads_rules
+fault_shape bs f q = ap head_of q.is
+
+-- what is none of these is an atom
+pub atom_shape : (bs : List ℕ) (r : Read) (n : Node) → r.node ≡ n → (r.node ≡ node.Pair → ⊥) → ((k : ℕ) → r.node ≡ node.Vector k → ⊥) → ((l : ℕ) → r.node ≡ node.Def l → ⊥) → ReadAs bs (Ok r) → an_atom ≡ head_of (read_node bs)
+atom_shape bs r (node.Plain v) e a b c q = node_shape bs r (node.Plain v) e q
+atom_shape bs r (node.String n) e a b c q = node_shape bs r (node.String n) e q
+atom_shape bs r (node.Symbol n) e a b c q = node_shape bs r (node.Symbol n) e q
+atom_shape bs r (node.Ident s n) e a b c q = node_shape bs r (node.Ident s n) e q
+atom_shape bs r (node.Ref l) e a b c q = node_shape bs r (node.Ref l) e q
+atom_shape bs r node.Pair e a b c q = absurd (a e)
+atom_shape bs r (node.Vector n) e a b c q = absurd (b n e)
+atom_shape bs r (node.Def l) e a b c q = absurd (c l e)
 
 -- ---- what was read is the leaf
 
--- the rest of a reading that is not faulty
+-- the rest of a reading
 rest_is : (n : Node) (t d : List ℕ) (x : rules.Node) (rest : List ℕ) → shown n t d ≡ reads x rest → d ≡ rest
-rest_is (node.Faulty f) t d x rest e = let z : ◌≡◌ {A = ℕ} 0 1 = cc in absurd (omega arith)
 rest_is (node.Plain v) t d x rest e = cc
 rest_is (node.String n) t d x rest e = cc
 rest_is (node.Symbol n) t d x rest e = cc
@@ -53,12 +70,12 @@ rest_is node.Pair t d x rest e = cc
 rest_is (node.Vector n) t d x rest e = cc
 rest_is (node.Def l) t d x rest e = cc
 
-module _ (x : rules.Node) (rest bs : List ℕ) (is : bs ≡ write_node x ++ rest) (fits : node_fits x ≡ true) (rd : Read) (q : ReadAs bs rd) where
+module _ (x : rules.Node) (rest bs : List ℕ) (is : bs ≡ write_node x ++ rest) (fits : node_fits x ≡ true) (rd : Read) (q : ReadAs bs (Ok rd)) where
   -- the reading, with the node that was read
   pub read_as : (n : Node) → rd.node ≡ n → shown n (text_of bs n rd.size) (drop rd.size bs) ≡ reads x rest
   unfolding reads_rules
   read_as n e =
-      ap (λ (y : Node). shown y (text_of bs y rd.size) (drop rd.size bs)) (sym e) ∙ q.shows.is ∙ ap read_node is
+      ap (λ (y : Node). shown y (text_of bs y rd.size) (drop rd.size bs)) (sym e) ∙ q.is ∙ ap read_node is
       ∙ read_written x rest fits
 
   pub rest_after : drop rd.size bs ≡ rest
@@ -71,7 +88,7 @@ module _ (x : rules.Node) (rest bs : List ℕ) (is : bs ≡ write_node x ++ rest
         ap length rest_after,
         length-drop rd.size bs,
         ap length is ∙ length-append (write_node x) rest,
-        q.shows.inside,
+        q.placed.inside,
       )
 
 -- ---- a symbol's put does not look at the labels
@@ -87,9 +104,17 @@ labels_aside m x s = go (found m.heap x s)
     go none = (refl, refl)
     go (some e) = (refl, refl)
 
+-- a leaf's node can be read
+pub never_faulty : {A : Type 0} (r : Rooms) (f : ℕ) (m : Making) (a : Atom) (rest : List ℕ) (count : ℕ) (datum words map bytes labels : List ℕ) → AtomTask r f m a rest count datum words map bytes labels → (x : Fault) → ReadAs datum (Err x) → A
+unfolding reads_rules
+never_faulty r f m a rest count datum words map bytes labels t x q =
+    let e : rules.faulty (fault_of x) ≡ reads (rules.atom a) rest = q.is ∙ ap read_node t.datum_is ∙ read_written (rules.atom a) rest t.fits in
+    let z : ◌≡◌ {A = ℕ} 0 1 = cc in
+    absurd (omega arith)
+
 -- ---- which leaf
 
-module _ (r : Rooms) (f : ℕ) (m : Making) (a : Atom) (rest : List ℕ) (count : ℕ) (datum words map bytes labels : List ℕ) (t : AtomTask r f m a rest count datum words map bytes labels) (rd : Read) (q : ReadAs datum rd) where
+module _ (r : Rooms) (f : ℕ) (m : Making) (a : Atom) (rest : List ℕ) (count : ℕ) (datum words map bytes labels : List ℕ) (t : AtomTask r f m a rest count datum words map bytes labels) (rd : Read) (q : ReadAs datum (Ok rd)) where
   abbrev leaf : (n : Node) → rd.node ≡ n → shown n (text_of datum n rd.size) (drop rd.size datum) ≡ reads (rules.atom a) rest
   leaf n e = read_as (rules.atom a) rest datum t.datum_is t.fits rd q n e
 
@@ -119,23 +144,25 @@ module _ (r : Rooms) (f : ℕ) (m : Making) (a : Atom) (rest : List ℕ) (count 
   plain_leaf v e = let p = leaf (node.Plain v) e in cc
 
   pub inside_text : (n : Node) → rd.node ≡ n → text_length n ≤ rd.size
-  inside_text n e = subst (λ (x : Node). text_length x ≤ rd.size) e q.shows.texts
+  inside_text n e = subst (λ (x : Node). text_length x ≤ rd.size) e q.placed.texts
 
   pub inside_datum : rd.size ≤ length datum
-  inside_datum = q.shows.inside
+  inside_datum = q.placed.inside
 
   -- ---- nodes that are no leaf
-  pub never_pair : {A : Type 0} → rd.node ≡ node.Pair → A
+  never_pair : {A : Type 0} → rd.node ≡ node.Pair → A
   never_pair e = let p = leaf node.Pair e in let z : ◌≡◌ {A = ℕ} 0 1 = cc in absurd (omega arith)
 
-  pub never_vector : {A : Type 0} (n : ℕ) → rd.node ≡ node.Vector n → A
+  never_vector : {A : Type 0} (n : ℕ) → rd.node ≡ node.Vector n → A
   never_vector n e = let p = leaf (node.Vector n) e in let z : ◌≡◌ {A = ℕ} 0 1 = cc in absurd (omega arith)
 
-  pub never_label : {A : Type 0} (l : ℕ) → rd.node ≡ node.Def l → A
+  never_label : {A : Type 0} (l : ℕ) → rd.node ≡ node.Def l → A
   never_label l e = let p = leaf (node.Def l) e in let z : ◌≡◌ {A = ℕ} 0 1 = cc in absurd (omega arith)
 
-  pub never_faulty : {A : Type 0} (x : Rattle.leaf_nodes.specs.declared.Fault.Fault) → rd.node ≡ node.Faulty x → A
-  never_faulty x e = let p = leaf (node.Faulty x) e in let z : ◌≡◌ {A = ℕ} 0 1 = cc in absurd (omega arith)
+  pub never_tree : {A : Type 0} → (rd.node ≡ node.Pair) ⊎ ((n : ℕ) × (rd.node ≡ node.Vector n)) ⊎ ((l : ℕ) × (rd.node ≡ node.Def l)) → A
+  never_tree (inl e) = never_pair e
+  never_tree (inr (inl (n, e))) = never_vector n e
+  never_tree (inr (inr (l, e))) = never_label l e
 
   -- ---- a scalar, a reference: the heap stays
 
@@ -155,7 +182,7 @@ module _ (r : Rooms) (f : ℕ) (m : Making) (a : Atom) (rest : List ℕ) (count 
   unfolding put_rules
   plain_done v e =
       stays (Atom.plain (scalar_of v)) (plain_leaf v e) v
-      (plain_value v (subst (λ (n : Node). in_order n rd.size ≡ true) e q.shows.order)) refl
+      (plain_value v (subst (λ (n : Node). in_order n ≡ true) e q.placed.order)) refl
 
   pub ref_done : (l s : ℕ) → rd.node ≡ node.Ref l → s ≡ slot_of l (labels_in labels count) → AtomDone r m a count (value.Slot s) rd.size count words map bytes
   unfolding put_rules
@@ -318,6 +345,6 @@ module _ (r : Rooms) (f : ℕ) (m : Making) (a : Atom) (rest : List ℕ) (count 
     ident_done_on z n s ws mp bs e p k = symbol_done (Atom.ident z y) y z (ident_leaf z n e ∙ ap (Atom.ident z) (sym p)) refl s ws mp bs k
 
 -- what was put, in the answer's fields
-pub answered : (r : Rooms) (m : Making) (a : Atom) (count : ℕ) (v : Value) (size labels : ℕ) (ws mp bs : List ℕ) (p : code.Put) → p ≡ record { value = v; size = size; labels = labels } → AtomDone r m a count v size labels ws mp bs → AtomDone r m a count p.value p.size p.labels ws mp bs
+pub answered : (r : Rooms) (m : Making) (a : Atom) (count : ℕ) (v : Value) (size labels : ℕ) (ws mp bs : List ℕ) (p : code.Put Value) → p ≡ record { value = v; size = size; labels = labels } → AtomDone r m a count v size labels ws mp bs → AtomDone r m a count p.value p.size p.labels ws mp bs
 answered r m a count v size labels ws mp bs p e d =
-    subst (λ (x : code.Put). AtomDone r m a count x.value x.size x.labels ws mp bs) (sym e) d
+    subst (λ (x : code.Put Value). AtomDone r m a count x.value x.size x.labels ws mp bs) (sym e) d

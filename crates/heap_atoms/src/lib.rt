@@ -14,10 +14,10 @@ ghost use Rattle.heap_atoms.specs.Tasks.{AtomTask, AtomDone};
 use leaf_cells::Value;
 use leaf_nodes::Node;
 
-// A datum that was put: its value, the bytes that it took of the lent datum, and how many labels there are now.
+// A part of a datum that was put: what it gave, the bytes that it took of the lent datum, and how many labels there are now.
 #[derive(Clone, Copy)]
-pub struct Put {
-    pub value: Value,
+pub struct Put<T> {
+    pub value: T,
     pub size: usize,
     pub labels: usize,
 }
@@ -34,22 +34,18 @@ pub enum Shape {
 pub fn shape_of(datum: &[u8]) -> Shape
     ensures { shown_shape result ≡ head_of (read_node datum.now) }
 {
-    let read = leaf_nodes::read_node(datum);
-    let node = read.node;
-    match node {
-        Node::Faulty(_) => Shape::Atom,
-        Node::Plain(_) => Shape::Atom,
-        Node::String(_) => Shape::Atom,
-        Node::Symbol(_) => Shape::Atom,
-        Node::Ident(_, _) => Shape::Atom,
-        Node::Ref(_) => Shape::Atom,
+    let Ok(read) = leaf_nodes::read_node(datum) else {
+        return Shape::Atom;
+    };
+    match read.node {
         Node::Pair => Shape::Pair,
         Node::Vector(n) => Shape::Vector(n),
         Node::Def(l) => Shape::Label(l),
+        _ => Shape::Atom,
     }
 }
 
-fn put_as(value: Value, size: usize, labels: usize) -> Put
+fn put_as(value: Value, size: usize, labels: usize) -> Put<Value>
     ensures { result ≡ record { value = value; size = size; labels = labels } }
 {
     Put {
@@ -67,14 +63,15 @@ pub fn put_atom(
     labels: &[u64],
     count: usize,
     datum: &[u8],
-) -> Put
+) -> Put<Value>
     requires { (r : Rooms) × (f : ℕ) × (m : Making) × (a : Atom) × (rest : List ℕ) × AtomTask r f m a rest count datum.now words.old map.old bytes.old labels.now }
     ensures { (r : Rooms) (f : ℕ) (m : Making) (a : Atom) (rest : List ℕ) → AtomTask r f m a rest count datum.now words.old map.old bytes.old labels.now → AtomDone r m a count result.value result.size result.labels words.new map.new bytes.new }
 {
-    let read = leaf_nodes::read_node(datum);
+    let Ok(read) = leaf_nodes::read_node(datum) else {
+        unreachable!()
+    };
     let size = read.size;
-    let node = read.node;
-    match node {
+    match read.node {
         Node::Plain(v) => put_as(v, size, count),
         Node::String(n) => {
             let from = size - n;
@@ -96,9 +93,6 @@ pub fn put_atom(
             size,
             count,
         ),
-        Node::Pair => put_as(Value::Undefined, size, count),
-        Node::Vector(_) => put_as(Value::Undefined, size, count),
-        Node::Def(_) => put_as(Value::Undefined, size, count),
-        Node::Faulty(_) => put_as(Value::Undefined, size, count),
+        Node::Pair | Node::Vector(_) | Node::Def(_) => unreachable!(),
     }
 }

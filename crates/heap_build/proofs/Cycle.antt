@@ -1,9 +1,11 @@
 -- The build in the lent lists, part by part: what each call is given and what it has done. Document 01, "Reading back".
 -- Assumes nothing.
 use mathlib.Core.Path.{◌≡◌, refl, sym, ap, ◌∙◌, subst}
-use mathlib.Core.Bool.{true, false}
+use mathlib.Core.Bool.{true}
 use mathlib.Core.List.{List, ◌∷◌}
 use mathlib.Core.Option.{Option, some}
+use Rattle.std.specs.Prelude as code
+use Rattle.std.specs.Prelude.{Some, None}
 use Prim.Native.Nat.{ℕ, suc, ◌+◌, ◌-◌, ◌*◌, ◌/◌, ◌%◌, ◌≤◌, ◌<◌}
 use native.Mathlib.Omega.{arith}
 use borrow.Author.Tests.{leb-true}
@@ -40,7 +42,7 @@ use Rattle.heap_walk.proofs.WalkLaws.{elements_named}
 use Rattle.heap_walk.proofs.Cycle.{row_there, cell_there, elems_length, element_row, element_there}
 use Rattle.heap_build.specs.Drafts.{Draft, note, and_next, begin, draft_all, draft_pair, draft_vector, draft_cell, draft_slot, draft}
 use Rattle.heap_build.specs.Tasks.{Marks, Shows, LeftBy, Job, inside, Ready, Task, Done, CellTask, CellDone, PairTask, PairDone, VectorTask, VectorDone, ElementsTask, ElementsDone, ElementTask, ElementDone}
-use Rattle.heap_build.proofs.StepLaws.{slot_plain, slot_again, slot_first, draft_step, draft_scalar, left_as, left_over, left_weaker, gave_up, On, went_on, at_small, noted_left, mark_plain, mark_labelled, mark_label, mark_begun, mark_not_begun, marks_begin}
+use Rattle.heap_build.proofs.StepLaws.{slot_plain, slot_again, slot_first, draft_step, draft_scalar, left_as, left_none, left_weaker, gave_up, On, went_on, at_small, noted_left, mark_plain, mark_labelled, mark_label, mark_begun, mark_not_begun, marks_begin}
 
 -- the same build with another draft, or less deep
 abbrev pub with_draft : Job → Draft → Job
@@ -113,11 +115,11 @@ module _ (j : Job) (s : ℕ) (p : Page) (words bytes elems marks out : List ℕ)
       }
 
   -- one that has no label
-  module _ (low : mark < 4) where
+  module _ (low : mark / 4 ≡ 0) where
     pub plain_task : CellTask (deeper j) s p words bytes elems marks out
     plain_task = record { ready = cell_ready; used = t.used }
 
-    pub plain_done : (r : Page) (marks' out' : List ℕ) → CellDone (deeper j) s r marks' out' → Done j s r marks' out'
+    pub plain_done : (r : code.Option Page) (marks' out' : List ℕ) → CellDone (deeper j) s r marks' out' → Done j s r marks' out'
     plain_done r marks' out' c =
         record {
           left =
@@ -126,12 +128,12 @@ module _ (j : Job) (s : ℕ) (p : Page) (words bytes elems marks out : List ℕ)
               c.left;
         }
 
-  module _ (high : mark < 4 → ⊥) where
+  module _ (high : mark / 4 ≡ 0 → ⊥) where
     labelled : mark / 4 - 1 ≡ place_in j.labels s
     labelled = mark_label j.labels j.draft.begun marks told s high
 
     -- "a reference later"
-    pub ref_done : mark % 4 ≡ 2 → (r : Page) (after : List ℕ) → Noted out (13 ∷ little 4 (mark / 4 - 1)) p after r → Done j s r marks after
+    pub ref_done : mark % 4 ≡ 2 → (r : code.Option Page) (after : List ℕ) → Noted out (13 ∷ little 4 (mark / 4 - 1)) p after r → Done j s r marks after
     unfolding nodes_rules
     ref_done e r after n =
         let l = place_in j.labels s in
@@ -148,7 +150,7 @@ module _ (j : Job) (s : ℕ) (p : Page) (words bytes elems marks out : List ℕ)
         }
 
     -- "a definition at first meeting"
-    module _ (new : mark % 4 ≡ 2 → ⊥) (after : List ℕ) (q : Page) (n : Noted out (12 ∷ little 4 (mark / 4 - 1)) p after q) where
+    module _ (new : mark % 4 ≡ 2 → ⊥) (after : List ℕ) (q : code.Option Page) (n : Noted out (12 ∷ little 4 (mark / 4 - 1)) p after q) where
       abbrev begun : Draft
       begun = begin s j.draft
 
@@ -156,12 +158,11 @@ module _ (j : Job) (s : ℕ) (p : Page) (words bytes elems marks out : List ℕ)
       l = place_in j.labels s
 
       abbrev marked : List ℕ
-      marked = set marks s (mark / 4 * 4 + 2)
+      marked = set marks s (4 * (mark / 4) + 2)
 
       begun_shows : Shows j.labels j.start begun p marked out
       begun_shows =
           record {
-            on = t.ready.shows.on;
             left_is = t.ready.shows.left_is;
             at_is = t.ready.shows.at_is;
             out_is = t.ready.shows.out_is;
@@ -182,40 +183,40 @@ module _ (j : Job) (s : ℕ) (p : Page) (words bytes elems marks out : List ℕ)
           ∙ slot_first one j.heap j.labels s j.draft (mark_labelled j.labels j.draft.begun marks told s high)
           (mark_not_begun j.labels j.draft.begun marks told s new)
 
-      pub def_over : q.over ≡ true → Done j s q marked after
+      pub def_none : q ≡ None → (r : code.Option Page) → r ≡ None → Done j s r marked after
       unfolding and_next
-      def_over e =
+      def_none e r none_left =
           record {
             left =
-                left_over j.labels j.start j.draft.left _ q marked after
+                left_none j.labels j.start j.draft.left _ r marked after
                 (def_step
                 ∙ ap (λ (o : Option Draft). and_next o (draft_cell one j.heap (cell_at j.heap s)))
                 (gave_up j.labels j.start j.draft.left (note (Node.def l) begun) q marked after head e))
-                e;
+                none_left;
           }
 
-      module _ (on : q.over ≡ false) where
-        pub went : On j.labels j.start j.draft.left (note (Node.def l) begun) q marked after head
-        went = went_on j.labels j.start j.draft.left (note (Node.def l) begun) q marked after head on
+      module _ (u : Page) (on : q ≡ Some u) where
+        pub went : On j.labels j.start j.draft.left (note (Node.def l) begun) q marked after head u
+        went = went_on j.labels j.start j.draft.left (note (Node.def l) begun) q marked after head u on
 
         abbrev pub def_job : Job
         def_job = with_draft (deeper j) went.draft
 
-        pub def_falls : q.left < p.left
+        pub def_falls : u.left < p.left
         def_falls = omega (arith, went.made.below, t.ready.shows.left_is)
 
-        pub def_task : CellTask def_job s q words bytes elems marked after
+        pub def_task : CellTask def_job s u words bytes elems marked after
         def_task =
             record {
               ready =
-                  ready_on (deeper j) (suc (j.depth - 1)) (suc (j.depth - 1)) p words bytes elems marks out cell_ready went.draft q marked after
+                  ready_on (deeper j) (suc (j.depth - 1)) (suc (j.depth - 1)) p words bytes elems marks out cell_ready went.draft u marked after
                   went.made.shows
                   (omega (arith, went.made.below, went.made.shows.left_is, t.ready.few))
-                  (length-set marks s (mark / 4 * 4 + 2));
+                  (length-set marks s (4 * (mark / 4) + 2));
               used = t.used;
             }
 
-        pub def_done : (r : Page) (marks' out' : List ℕ) → CellDone def_job s r marks' out' → Done j s r marks' out'
+        pub def_done : (r : code.Option Page) (marks' out' : List ℕ) → CellDone def_job s r marks' out' → Done j s r marks' out'
         unfolding and_next inside
         def_done r marks' out' c =
             record {
@@ -228,45 +229,6 @@ module _ (j : Job) (s : ℕ) (p : Page) (words bytes elems marks out : List ℕ)
                   ∙ ap (λ (o : Option Draft). and_next o (draft_cell one j.heap (cell_at j.heap s))) went.is))
                   c.left);
             }
-
--- a slot whose cell is to be built, past the definition of its label where it has one
-pub record Entered (j : Job) (s : ℕ) (p : Page) (words bytes elems marks₀ out₀ : List ℕ) (q : Page) (marks out : List ℕ) : Type 0 where
-  pub job : Job
-  pub task : CellTask job s q words bytes elems marks out
-  pub done : (r : Page) (marks' out' : List ℕ) → CellDone job s r marks' out' → Done j s r marks' out'
-  pub fewer : q.left ≤ p.left
-  pub marks_size : length marks ≡ length marks₀
-  pub out_size : length out ≡ length out₀
-
-module _ (j : Job) (s : ℕ) (p : Page) (words bytes elems marks out : List ℕ) where
-  pub entered_as : (q q' : Page) (marks₁ marks₂ out₁ out₂ : List ℕ) → q' ≡ q → marks₂ ≡ marks₁ → out₂ ≡ out₁ → Entered j s p words bytes elems marks out q marks₁ out₁ → Entered j s p words bytes elems marks out q' marks₂ out₂
-  entered_as q q' marks₁ marks₂ out₁ out₂ a b c e =
-      subst (λ (x : Page). Entered j s p words bytes elems marks out x marks₂ out₂) (sym a)
-      (subst (λ (x : List ℕ). Entered j s p words bytes elems marks out q x out₂) (sym b)
-      (subst (λ (x : List ℕ). Entered j s p words bytes elems marks out q marks₁ x) (sym c) e))
-
-  module _ (t : Task j s p words bytes elems marks out) where
-    pub entered_plain : get_or marks s 0 < 4 → Entered j s p words bytes elems marks out p marks out
-    entered_plain low =
-        record {
-          job = deeper j;
-          task = plain_task j s p words bytes elems marks out t low;
-          done = plain_done j s p words bytes elems marks out t low;
-          fewer = omega arith;
-          marks_size = refl;
-          out_size = refl;
-        }
-
-    pub entered_label : (high : get_or marks s 0 < 4 → ⊥) (new : get_or marks s 0 % 4 ≡ 2 → ⊥) (after : List ℕ) (q : Page) (n : Noted out (12 ∷ little 4 (get_or marks s 0 / 4 - 1)) p after q) → q.over ≡ false → length after ≡ length out → Entered j s p words bytes elems marks out q (set marks s (get_or marks s 0 / 4 * 4 + 2)) after
-    entered_label high new after q n on size =
-        record {
-          job = def_job j s p words bytes elems marks out t high new after q n on;
-          task = def_task j s p words bytes elems marks out t high new after q n on;
-          done = def_done j s p words bytes elems marks out t high new after q n on;
-          fewer = omega (arith, def_falls j s p words bytes elems marks out t high new after q n on);
-          marks_size = length-set marks s (get_or marks s 0 / 4 * 4 + 2);
-          out_size = size;
-        }
 
 -- ---- a slot's cell
 
@@ -292,7 +254,7 @@ module _ (j : Job) (s : ℕ) (p : Page) (words bytes elems marks out : List ℕ)
     good_cell : (c : Cell) → cell_of v ≡ c → CellGood j.heap c
     good_cell c e = subst (λ (x : Cell). CellGood j.heap x) (shown c e) (t.ready.stands.good.cells s)
 
-    cell_as : (c : Cell) → cell_of v ≡ c → (r : Page) (marks' out' : List ℕ) → LeftBy j.labels j.start j.draft.left (draft_cell (inside j) j.heap c j.draft) r marks' out' → CellDone j s r marks' out'
+    cell_as : (c : Cell) → cell_of v ≡ c → (r : code.Option Page) (marks' out' : List ℕ) → LeftBy j.labels j.start j.draft.left (draft_cell (inside j) j.heap c j.draft) r marks' out' → CellDone j s r marks' out'
     cell_as c e r marks' out' m =
         record {
           left =
@@ -309,7 +271,7 @@ module _ (j : Job) (s : ℕ) (p : Page) (words bytes elems marks out : List ℕ)
       pair_task =
           record { ready = t.ready; car_used = both_left (in_use j.heap a) _ linked; cdr_used = both_right (in_use j.heap a) _ linked }
 
-      pub pair_cell : (r : Page) (marks' out' : List ℕ) → PairDone j a d r marks' out' → CellDone j s r marks' out'
+      pub pair_cell : (r : code.Option Page) (marks' out' : List ℕ) → PairDone j a d r marks' out' → CellDone j s r marks' out'
       unfolding draft_cell
       pair_cell r marks' out' o = cell_as (pair a d) (ap cell_of is) r marks' out' o.left
 
@@ -328,7 +290,7 @@ module _ (j : Job) (s : ℕ) (p : Page) (words bytes elems marks out : List ℕ)
             named = elements_named j.heap (block place n) good_vector;
           }
 
-      pub vector_cell : (r : Page) (marks' out' : List ℕ) → VectorDone j place n r marks' out' → CellDone j s r marks' out'
+      pub vector_cell : (r : code.Option Page) (marks' out' : List ℕ) → VectorDone j place n r marks' out' → CellDone j s r marks' out'
       unfolding draft_cell
       vector_cell r marks' out' o = cell_as (vector (block place n)) (ap cell_of is) r marks' out' o.left
 
@@ -354,7 +316,7 @@ module _ (j : Job) (s : ℕ) (p : Page) (words bytes elems marks out : List ℕ)
       text_short text e =
           omega (arith, ap length (e ∙ text_there), length_part j.heap.bytes b.place b.size lies, most)
 
-      text_noted : (k : ℕ) (a : Atom) → write_node (Node.atom a) ≡ k ∷ write_text (text_of j.heap b) → (text : List ℕ) → text ≡ part_of bytes b → (r : Page) (after : List ℕ) → Noted out (k ∷ write_text text) p after r → LeftBy j.labels j.start j.draft.left (note (Node.atom a) j.draft) r marks after
+      text_noted : (k : ℕ) (a : Atom) → write_node (Node.atom a) ≡ k ∷ write_text (text_of j.heap b) → (text : List ℕ) → text ≡ part_of bytes b → (r : code.Option Page) (after : List ℕ) → Noted out (k ∷ write_text text) p after r → LeftBy j.labels j.start j.draft.left (note (Node.atom a) j.draft) r marks after
       unfolding nodes_rules
       text_noted k a w text e r after n =
           let tx = text_of j.heap b in
@@ -388,7 +350,7 @@ module _ (j : Job) (s : ℕ) (p : Page) (words bytes elems marks out : List ℕ)
       pub symbol_short : (text : List ℕ) → text ≡ part_of bytes (block place n) → length text ≤ 4096
       symbol_short = text_short (block place n) symbol_lies symbol_most
 
-      pub symbol_cell : (text : List ℕ) → text ≡ part_of bytes (block place n) → (r : Page) (after : List ℕ) → Noted out (8 ∷ write_text text) p after r → CellDone j s r marks after
+      pub symbol_cell : (text : List ℕ) → text ≡ part_of bytes (block place n) → (r : code.Option Page) (after : List ℕ) → Noted out (8 ∷ write_text text) p after r → CellDone j s r marks after
       unfolding draft_cell nodes_rules
       symbol_cell text e r after o =
           cell_as (symbol (block place n)) (ap cell_of is) r marks after
@@ -412,13 +374,13 @@ module _ (j : Job) (s : ℕ) (p : Page) (words bytes elems marks out : List ℕ)
       pub string_short : (text : List ℕ) → text ≡ part_of bytes (block place n) → length text ≤ 4096
       string_short = text_short (block place n) string_lies string_most
 
-      pub string_cell : (text : List ℕ) → text ≡ part_of bytes (block place n) → (r : Page) (after : List ℕ) → Noted out (7 ∷ write_text text) p after r → CellDone j s r marks after
+      pub string_cell : (text : List ℕ) → text ≡ part_of bytes (block place n) → (r : code.Option Page) (after : List ℕ) → Noted out (7 ∷ write_text text) p after r → CellDone j s r marks after
       unfolding draft_cell nodes_rules
       string_cell text e r after o =
           cell_as (string (block place n)) (ap cell_of is) r marks after
           (text_noted (block place n) string_lies string_most 7 (Atom.string (text_of j.heap (block place n))) refl text e r after o)
 
-    pub scalar_cell : (x : Scalar) → cell_of v ≡ plain x → (r : Page) (after : List ℕ) → Noted out (write_scalar x) p after r → CellDone j s r marks after
+    pub scalar_cell : (x : Scalar) → cell_of v ≡ plain x → (r : code.Option Page) (after : List ℕ) → Noted out (write_scalar x) p after r → CellDone j s r marks after
     unfolding draft_cell nodes_rules
     scalar_cell x e r after o =
         cell_as (plain x) e r marks after
@@ -442,79 +404,79 @@ module _ (j : Job) (a d : ℕ) (p : Page) (words bytes elems marks out : List �
   abbrev after_car : Draft → Option Draft
   after_car e = and_next (inside j (slot a) e) (λ e. inside j (slot d) e)
 
-  module _ (out₁ : List ℕ) (q : Page) (n : Noted out (9 ∷ little 0 0) p out₁ q) where
+  module _ (out₁ : List ℕ) (q : code.Option Page) (n : Noted out (9 ∷ little 0 0) p out₁ q) where
     pub head_noted : LeftBy j.labels j.start j.draft.left (note Node.pair j.draft) q marks out₁
     unfolding nodes_rules basics
     head_noted =
         noted_left j.labels j.start j.draft p marks out t.ready.shows Node.pair
         (short_node Node.pair 1 refl (omega arith)) out₁ q n
 
-    pub pair_over : q.over ≡ true → PairDone j a d q marks out₁
+    pub pair_none : q ≡ None → (r : code.Option Page) → r ≡ None → PairDone j a d r marks out₁
     unfolding draft_pair and_next
-    pair_over e =
+    pair_none e r none_left =
         record {
           left =
-              left_over j.labels j.start j.draft.left _ q marks out₁
+              left_none j.labels j.start j.draft.left _ r marks out₁
               (ap (λ (o : Option Draft). and_next o after_car)
               (gave_up j.labels j.start j.draft.left (note Node.pair j.draft) q marks out₁ head_noted e))
-              e;
+              none_left;
         }
 
-    module _ (on : q.over ≡ false) where
-      pub head_on : On j.labels j.start j.draft.left (note Node.pair j.draft) q marks out₁ head_noted
-      head_on = went_on j.labels j.start j.draft.left (note Node.pair j.draft) q marks out₁ head_noted on
+    module _ (head : Page) (on : q ≡ Some head) where
+      pub head_on : On j.labels j.start j.draft.left (note Node.pair j.draft) q marks out₁ head_noted head
+      head_on = went_on j.labels j.start j.draft.left (note Node.pair j.draft) q marks out₁ head_noted head on
 
-      pub head_falls : q.left < p.left
+      pub head_falls : head.left < p.left
       head_falls = omega (arith, head_on.made.below, t.ready.shows.left_is)
 
       abbrev pub car_job : Job
       car_job = with_draft j head_on.draft
 
-      car_ready : Ready car_job j.depth q words bytes elems marks out₁
+      car_ready : Ready car_job j.depth head words bytes elems marks out₁
       car_ready =
-          ready_on j (suc j.depth) j.depth p words bytes elems marks out t.ready head_on.draft q marks out₁ head_on.made.shows
+          ready_on j (suc j.depth) j.depth p words bytes elems marks out t.ready head_on.draft head marks out₁ head_on.made.shows
           (omega (arith, head_on.made.below, head_on.made.shows.left_is, t.ready.few)) refl
 
-      pub car_task : Task car_job a q words bytes elems marks out₁
+      pub car_task : Task car_job a head words bytes elems marks out₁
       car_task = record { ready = car_ready; used = t.car_used }
 
       pair_head : draft_pair (inside j) a d j.draft ≡ after_car head_on.draft
       unfolding draft_pair and_next
       pair_head = ap (λ (o : Option Draft). and_next o after_car) head_on.is
 
-      module _ (r : Page) (marks₂ out₂ : List ℕ) (o : Done car_job a r marks₂ out₂) where
-        pub car_over : r.over ≡ true → PairDone j a d r marks₂ out₂
+      module _ (r : code.Option Page) (marks₂ out₂ : List ℕ) (o : Done car_job a r marks₂ out₂) where
+        pub car_none : r ≡ None → (u : code.Option Page) → u ≡ None → PairDone j a d u marks₂ out₂
         unfolding and_next inside
-        car_over e =
+        car_none e u none_left =
             record {
               left =
-                  left_over j.labels j.start j.draft.left _ r marks₂ out₂
+                  left_none j.labels j.start j.draft.left _ u marks₂ out₂
                   (pair_head
                   ∙ ap (λ (x : Option Draft). and_next x (λ e. inside j (slot d) e))
                   (gave_up j.labels j.start head_on.draft.left (inside car_job (slot a) head_on.draft) r marks₂ out₂ o.left e))
-                  e;
+                  none_left;
             }
 
-        module _ (on₂ : r.over ≡ false) where
-          pub car_on : On j.labels j.start head_on.draft.left (inside car_job (slot a) head_on.draft) r marks₂ out₂ o.left
-          car_on = went_on j.labels j.start head_on.draft.left (inside car_job (slot a) head_on.draft) r marks₂ out₂ o.left on₂
+        module _ (car : Page) (on₂ : r ≡ Some car) where
+          pub car_on : On j.labels j.start head_on.draft.left (inside car_job (slot a) head_on.draft) r marks₂ out₂ o.left car
+          car_on = went_on j.labels j.start head_on.draft.left (inside car_job (slot a) head_on.draft) r marks₂ out₂ o.left car on₂
 
-          pub car_falls : r.left < p.left
+          pub car_falls : car.left < p.left
           car_falls = omega (arith, car_on.made.below, head_on.made.below, head_on.made.shows.left_is, t.ready.shows.left_is)
 
           abbrev pub cdr_job : Job
           cdr_job = with_draft j car_on.draft
 
-          pub cdr_task : length marks₂ ≡ length marks → Task cdr_job d r words bytes elems marks₂ out₂
+          pub cdr_task : length marks₂ ≡ length marks → Task cdr_job d car words bytes elems marks₂ out₂
           cdr_task size =
               record {
                 ready =
-                    ready_on car_job j.depth j.depth q words bytes elems marks out₁ car_ready car_on.draft r marks₂ out₂ car_on.made.shows
+                    ready_on car_job j.depth j.depth head words bytes elems marks out₁ car_ready car_on.draft car marks₂ out₂ car_on.made.shows
                     (omega (arith, car_on.made.below, car_on.made.shows.left_is, car_ready.few)) size;
                 used = t.cdr_used;
               }
 
-          pub pair_done : (u : Page) (marks₃ out₃ : List ℕ) → Done cdr_job d u marks₃ out₃ → PairDone j a d u marks₃ out₃
+          pub pair_done : (u : code.Option Page) (marks₃ out₃ : List ℕ) → Done cdr_job d u marks₃ out₃ → PairDone j a d u marks₃ out₃
           unfolding and_next inside
           pair_done u marks₃ out₃ c =
               record {
@@ -538,7 +500,7 @@ module _ (j : Job) (place n : ℕ) (p : Page) (words bytes elems marks out : Lis
   items_size : length items ≡ n
   items_size = length_part j.heap.elements place n t.within
 
-  module _ (out₁ : List ℕ) (q : Page) (w : Noted out (10 ∷ little 4 n) p out₁ q) where
+  module _ (out₁ : List ℕ) (q : code.Option Page) (w : Noted out (10 ∷ little 4 n) p out₁ q) where
     pub vector_noted : LeftBy j.labels j.start j.draft.left (note (Node.vector (length items)) j.draft) q marks out₁
     unfolding nodes_rules
     vector_noted =
@@ -546,38 +508,38 @@ module _ (j : Job) (place n : ℕ) (p : Page) (words bytes elems marks out : Lis
         (short_node (Node.vector (length items)) 5 (label_size 10 (length items)) (omega arith)) out₁ q
         (noted_as out p out₁ q (ap (λ (x : ℕ). 10 ∷ little 4 x) (sym items_size)) w)
 
-    pub vector_over : q.over ≡ true → VectorDone j place n q marks out₁
+    pub vector_none : q ≡ None → (r : code.Option Page) → r ≡ None → VectorDone j place n r marks out₁
     unfolding draft_vector and_next
-    vector_over e =
+    vector_none e r none_left =
         record {
           left =
-              left_over j.labels j.start j.draft.left _ q marks out₁
+              left_none j.labels j.start j.draft.left _ r marks out₁
               (ap (λ (o : Option Draft). and_next o (λ d. draft_all (inside j) items d))
               (gave_up j.labels j.start j.draft.left (note (Node.vector (length items)) j.draft) q marks out₁ vector_noted e))
-              e;
+              none_left;
         }
 
-    module _ (on : q.over ≡ false) where
-      pub vector_on : On j.labels j.start j.draft.left (note (Node.vector (length items)) j.draft) q marks out₁ vector_noted
-      vector_on = went_on j.labels j.start j.draft.left (note (Node.vector (length items)) j.draft) q marks out₁ vector_noted on
+    module _ (head : Page) (on : q ≡ Some head) where
+      pub vector_on : On j.labels j.start j.draft.left (note (Node.vector (length items)) j.draft) q marks out₁ vector_noted head
+      vector_on = went_on j.labels j.start j.draft.left (note (Node.vector (length items)) j.draft) q marks out₁ vector_noted head on
 
-      pub vector_falls : q.left < p.left
+      pub vector_falls : head.left < p.left
       vector_falls = omega (arith, vector_on.made.below, t.ready.shows.left_is)
 
       abbrev pub items_job : Job
       items_job = with_draft j vector_on.draft
 
-      pub items_task : ElementsTask items_job place n q words bytes elems marks out₁
+      pub items_task : ElementsTask items_job place n head words bytes elems marks out₁
       items_task =
           record {
             ready =
-                ready_on j (suc j.depth) j.depth p words bytes elems marks out t.ready vector_on.draft q marks out₁ vector_on.made.shows
+                ready_on j (suc j.depth) j.depth p words bytes elems marks out t.ready vector_on.draft head marks out₁ vector_on.made.shows
                 (omega (arith, vector_on.made.below, vector_on.made.shows.left_is, t.ready.few)) refl;
             within = t.within;
             named = t.named;
           }
 
-      pub vector_done : (r : Page) (marks' out' : List ℕ) → ElementsDone items_job place n r marks' out' → VectorDone j place n r marks' out'
+      pub vector_done : (r : code.Option Page) (marks' out' : List ℕ) → ElementsDone items_job place n r marks' out' → VectorDone j place n r marks' out'
       unfolding draft_vector and_next inside
       vector_done r marks' out' o =
           record {
@@ -617,12 +579,12 @@ module _ (j : Job) (place n : ℕ) (p : Page) (words bytes elems marks₀ out₀
       pub going_left : q.left ≤ p.left
       going_left = omega (arith, g.fewer, g.ready.shows.left_is, t.ready.shows.left_is)
 
-      pub going_ends : n ≤ i → ElementsDone j place n q marks out
+      pub going_ends : n ≤ i → ElementsDone j place n (Some q) marks out
       unfolding draft_all LeftBy
       going_ends e =
           record {
             left =
-                left_as j.labels j.start (suc j.draft.left) (some g.so_far) _ q marks out
+                left_as j.labels j.start (suc j.draft.left) (some g.so_far) _ (Some q) marks out
                 (ap (λ (l : List cells.Value). draft_all (inside j) l g.so_far) (sym (lib.ListN.drop_of_length-le all {i = i} (omega (arith, all_size)))) ∙ g.whole)
                 (record { shows = g.ready.shows; below = omega (arith, g.fewer, g.ready.shows.left_is) });
           }
@@ -650,28 +612,28 @@ module _ (j : Job) (place n : ℕ) (p : Page) (words bytes elems marks₀ out₀
             (drop-cons all i (scalar undefined) (omega (arith, all_size))
             ∙ ap (λ (v : cells.Value). v ∷ drop (suc i) all) (get_d_part j.heap.elements place n i (scalar undefined) low))
 
-        module _ (r : Page) (marks' out' : List ℕ) (o : ElementDone element_job (place + i) r marks' out') where
-          pub going_over : r.over ≡ true → ElementsDone j place n r marks' out'
+        module _ (r : code.Option Page) (marks' out' : List ℕ) (o : ElementDone element_job (place + i) r marks' out') where
+          pub going_none : r ≡ None → (u : code.Option Page) → u ≡ None → ElementsDone j place n u marks' out'
           unfolding and_next inside
-          going_over e =
+          going_none e u none_left =
               record {
                 left =
-                    left_over j.labels j.start (suc j.draft.left) _ r marks' out'
+                    left_none j.labels j.start (suc j.draft.left) _ u marks' out'
                     (next
                     ∙ ap (λ (x : Option Draft). and_next x (λ d. draft_all (inside j) (drop (suc i) all) d))
                     (gave_up j.labels j.start g.so_far.left (inside element_job here g.so_far) r marks' out' o.left e))
-                    e;
+                    none_left;
               }
 
-          pub going_on : r.over ≡ false → length marks' ≡ length marks → Going (i + 1) r marks' out'
+          pub going_on : (u : Page) → r ≡ Some u → length marks' ≡ length marks → Going (i + 1) u marks' out'
           unfolding and_next inside
-          going_on on size =
-              let w = went_on j.labels j.start g.so_far.left (inside element_job here g.so_far) r marks' out' o.left on in
+          going_on u on size =
+              let w = went_on j.labels j.start g.so_far.left (inside element_job here g.so_far) r marks' out' o.left u on in
               let less : w.draft.left ≤ g.so_far.left = omega (arith, w.made.below, w.made.shows.left_is) in
               record {
                 so_far = w.draft;
                 ready =
-                    ready_on element_job j.depth j.depth q words bytes elems marks out g.ready w.draft r marks' out' w.made.shows
+                    ready_on element_job j.depth j.depth q words bytes elems marks out g.ready w.draft u marks' out' w.made.shows
                     (omega (arith, less, g.ready.few)) size;
                 whole =
                     ap (λ (k : ℕ). draft_all (inside j) (drop k all) w.draft) (native.Mathlib.Numerals.add-one i)
@@ -698,7 +660,7 @@ module _ (j : Job) (place : ℕ) (p : Page) (words bytes elems marks out : List 
     element_slot s is =
         record { ready = t.ready; used = ap (value_named j.heap) (sym (ap value_of is) ∙ is_value) ∙ t.named }
 
-    pub slot_element : (s : ℕ) → v ≡ code_value.Slot s → (r : Page) (marks' out' : List ℕ) → Done j s r marks' out' → ElementDone j place r marks' out'
+    pub slot_element : (s : ℕ) → v ≡ code_value.Slot s → (r : code.Option Page) (marks' out' : List ℕ) → Done j s r marks' out' → ElementDone j place r marks' out'
     slot_element s is r marks' out' o =
         record {
           left =
@@ -706,7 +668,7 @@ module _ (j : Job) (place : ℕ) (p : Page) (words bytes elems marks out : List 
               (ap (λ (x : cells.Value). inside j x j.draft) (sym (ap value_of is) ∙ is_value)) o.left;
         }
 
-    pub scalar_element : (x : Scalar) → value_of v ≡ scalar x → (r : Page) (after : List ℕ) → Noted out (write_scalar x) p after r → ElementDone j place r marks after
+    pub scalar_element : (x : Scalar) → value_of v ≡ scalar x → (r : code.Option Page) (after : List ℕ) → Noted out (write_scalar x) p after r → ElementDone j place r marks after
     unfolding inside nodes_rules
     scalar_element x e r after o =
         record {

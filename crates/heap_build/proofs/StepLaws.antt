@@ -4,6 +4,8 @@ use mathlib.Core.Path.{◌≡◌, refl, sym, ap, ◌∙◌, subst}
 use mathlib.Core.Bool.{Bool, true, false}
 use mathlib.Core.List.{List, ◌∷◌, ◌++◌}
 use mathlib.Core.Option.{Option, none, some}
+use Rattle.std.specs.Prelude as code
+use Rattle.std.specs.Prelude.{Some, None}
 use Prim.Native.Nat.{ℕ, zero, suc, ◌+◌, ◌-◌, ◌*◌, ◌/◌, ◌%◌, ◌≤◌, ◌<◌}
 use native.Mathlib.Omega.{arith}
 use native.Mathlib.Decide.{ℕ_discrete}
@@ -12,7 +14,6 @@ use lib.Dec.{eqb}
 use lib.ListN.{length, get_or, set, length-append}
 use lib.Seq.{sets, get_or-set_same, get_or-set_other}
 use Rattle.laws.specs.Basics.{choose, member}
-use Rattle.laws.proofs.Tests.{true≢false}
 use Rattle.laws.proofs.Writing.{sets_append}
 use Rattle.laws.proofs.Members.{member_other, first_member}
 use Rattle.rules.specs.Cells.{Scalar, Value, slot, scalar, Cell, plain, pair, symbol, string, vector}
@@ -102,76 +103,74 @@ draft_scalar (suc n) h labels x d few = refl
 -- ---- what a part leaves
 
 module _ (labels start : List ℕ) where
-  pub left_as : (bound : ℕ) (o o' : Option Draft) (p : Page) (marks out : List ℕ) → o ≡ o' → LeftBy labels start bound o p marks out → LeftBy labels start bound o' p marks out
-  left_as bound o o' p marks out e l = subst (λ (x : Option Draft). LeftBy labels start bound x p marks out) e l
+  pub left_as : (bound : ℕ) (o o' : Option Draft) (r : code.Option Page) (marks out : List ℕ) → o ≡ o' → LeftBy labels start bound o r marks out → LeftBy labels start bound o' r marks out
+  left_as bound o o' r marks out e l = subst (λ (x : Option Draft). LeftBy labels start bound x r marks out) e l
 
-  pub left_over : (bound : ℕ) (o : Option Draft) (p : Page) (marks out : List ℕ) → o ≡ none → p.over ≡ true → LeftBy labels start bound o p marks out
+  pub left_none : (bound : ℕ) (o : Option Draft) (r : code.Option Page) (marks out : List ℕ) → o ≡ none → r ≡ None → LeftBy labels start bound o r marks out
   unfolding LeftBy
-  left_over bound o p marks out e over = left_as bound none o p marks out (sym e) over
+  left_none bound o r marks out e none_left =
+      left_as bound none o r marks out (sym e) (subst (λ (x : code.Option Page). LeftBy labels start bound none x marks out) (sym none_left) tt)
 
-  pub left_weaker : (b c : ℕ) (o : Option Draft) (p : Page) (marks out : List ℕ) → b ≤ c → LeftBy labels start b o p marks out → LeftBy labels start c o p marks out
+  pub left_weaker : (b c : ℕ) (o : Option Draft) (r : code.Option Page) (marks out : List ℕ) → b ≤ c → LeftBy labels start b o r marks out → LeftBy labels start c o r marks out
   unfolding LeftBy
-  left_weaker b c none p marks out h l = l
-  left_weaker b c (some d) p marks out h l = record { shows = l.shows; below = omega (arith, l.below) }
+  left_weaker b c none None marks out h l = l
+  left_weaker b c none (Some p) marks out h l = l
+  left_weaker b c (some d) None marks out h l = l
+  left_weaker b c (some d) (Some p) marks out h l = record { shows = l.shows; below = omega (arith, l.below) }
 
-  module _ (bound : ℕ) (o : Option Draft) (p : Page) (marks out : List ℕ) (l : LeftBy labels start bound o p marks out) where
-    pub gave_up : p.over ≡ true → o ≡ none
+  module _ (bound : ℕ) (o : Option Draft) (r : code.Option Page) (marks out : List ℕ) (l : LeftBy labels start bound o r marks out) where
+    pub gave_up : r ≡ None → o ≡ none
     unfolding LeftBy
-    gave_up e = go o refl l
+    gave_up e = go o (subst (λ (x : code.Option Page). LeftBy labels start bound o x marks out) e l)
       where
-        go : (x : Option Draft) → o ≡ x → LeftBy labels start bound x p marks out → o ≡ none
-        go none q l = q
-        go (some d) q l = absurd (true≢false (sym e ∙ l.shows.on))
+        go : (x : Option Draft) → LeftBy labels start bound x None marks out → x ≡ none
+        go none l = refl
+        go (some d) l = absurd l
 
-    pub record On : Type 0 where
-      pub draft : Draft
-      pub is : o ≡ some draft
-      pub made : Made labels start bound draft p marks out
+    module _ (p : Page) where
+      pub record On : Type 0 where
+        pub draft : Draft
+        pub is : o ≡ some draft
+        pub made : Made labels start bound draft p marks out
 
-    pub went_on : p.over ≡ false → On
-    unfolding LeftBy
-    went_on e = go o refl l
-      where
-        go : (x : Option Draft) → o ≡ x → LeftBy labels start bound x p marks out → On
-        go none q l = absurd (true≢false (sym l ∙ e))
-        go (some d) q l = record { draft = d; is = q; made = l }
+      pub went_on : r ≡ Some p → On
+      unfolding LeftBy
+      went_on e = go o refl (subst (λ (x : code.Option Page). LeftBy labels start bound o x marks out) e l)
+        where
+          go : (x : Option Draft) → o ≡ x → LeftBy labels start bound x (Some p) marks out → On
+          go none q l = absurd l
+          go (some d) q l = record { draft = d; is = q; made = l }
 
   -- a node that was written
   module _ (d : Draft) (p : Page) (marks out : List ℕ) (s : Shows labels start d p marks out) where
     pub at_small : p.at ≤ 16797696
     at_small = omega (arith, s.at_is, s.small)
 
-    module _ (node : Node) (fits : length (write_node node) ≤ 4101) (after : List ℕ) (r : Page) (n : Noted out (write_node node) p after r) where
+    module _ (node : Node) (fits : length (write_node node) ≤ 4101) (after : List ℕ) (r : code.Option Page) (n : Noted out (write_node node) p after r) where
       pub noted_left : LeftBy labels start d.left (note node d) r marks after
       unfolding LeftBy noted stored
       noted_left = go d.left refl
         where
+          page : (b : Bool) → eqb p.left 0 ≡ b → r ≡ choose b None (Some (record { left = p.left - 1; at = p.at + length (write_node node) }))
+          page b e =
+              n.page_is
+              ∙ ap (λ (b : Bool). choose b None (Some (record { left = p.left - 1; at = p.at + length (write_node node) }))) e
+
           go : (k : ℕ) → d.left ≡ k → LeftBy labels start d.left (note node d) r marks after
           go zero e =
-              left_as d.left none (note node d) r marks after (sym (note_none node d e))
-              (ap (λ (x : Page). x.over)
-              (n.page_is
-              ∙ ap (λ (b : Bool). choose b (record { left = 0; at = p.at; over = true }) (record { left = p.left - 1; at = p.at + length (write_node node); over = false }))
-              (eq-eqb p.left 0 (s.left_is ∙ e))))
+              left_none d.left (note node d) r marks after (note_none node d e) (page true (eq-eqb p.left 0 (s.left_is ∙ e)))
           go (suc k) e =
               let some_left : eqb p.left 0 ≡ false = ne_eqb p.left 0 (λ q. omega (arith, s.left_is, e)) in
-              let page : r ≡ record { left = p.left - 1; at = p.at + length (write_node node); over = false } =
-              n.page_is
-              ∙ ap (λ (b : Bool). choose b (record { left = 0; at = p.at; over = true }) (record { left = p.left - 1; at = p.at + length (write_node node); over = false })) some_left
-              in
               let wrote : after ≡ sets out p.at (write_node node) =
               n.out_is ∙ ap (λ (b : Bool). choose b out (sets out p.at (write_node node))) some_left
               in
               let place : p.at ≡ 0 + length d.text = omega (arith, s.at_is) in
-              let lefts : r.left ≡ k = ap (λ (x : Page). x.left) page ∙ omega (arith, s.left_is, e) in
-              left_as d.left (some (record { left = k; begun = d.begun; text = d.text ++ write_node node })) (note node d) r marks after
-              (sym (note_some node d k e))
-              (record {
+              let made : LeftBy labels start d.left (some (record { left = k; begun = d.begun; text = d.text ++ write_node node })) (Some (record { left = p.left - 1; at = p.at + length (write_node node) })) marks after =
+              record {
                 shows =
                     record {
-                      on = ap (λ (x : Page). x.over) page;
-                      left_is = lefts;
-                      at_is = ap (λ (x : Page). x.at) page ∙ omega (arith, s.at_is, length-append d.text (write_node node));
+                      left_is = omega (arith, s.left_is, e);
+                      at_is = omega (arith, s.at_is, length-append d.text (write_node node));
                       out_is =
                           wrote
                           ∙ (λ i. sets (s.out_is i) (place i) (write_node node))
@@ -179,27 +178,31 @@ module _ (labels start : List ℕ) where
                       marks_are = s.marks_are;
                       small = omega (arith, length-append d.text (write_node node), fits, s.small, e);
                     };
-                below = omega (arith, lefts, e);
-              })
+                below = omega (arith, s.left_is, e);
+              }
+              in
+              left_as d.left (some (record { left = k; begun = d.begun; text = d.text ++ write_node node })) (note node d) r marks after
+              (sym (note_some node d k e))
+              (subst (λ (x : code.Option Page). LeftBy labels start d.left (some (record { left = k; begun = d.begun; text = d.text ++ write_node node })) x marks after) (sym (page false some_left)) made)
 
 -- ---- what the scratch tells of a slot
 
 module _ (labels begun marks : List ℕ) (m : Marks labels begun marks) (s : ℕ) where
-  pub mark_plain : get_or marks s 0 < 4 → member s labels ≡ false
+  pub mark_plain : get_or marks s 0 / 4 ≡ 0 → member s labels ≡ false
   mark_plain low = go (member s labels) refl
     where
       go : (b : Bool) → member s labels ≡ b → member s labels ≡ false
       go true e = absurd (omega (arith, m.labels_are s, label_some labels s e))
       go false e = e
 
-  pub mark_labelled : (get_or marks s 0 < 4 → ⊥) → member s labels ≡ true
+  pub mark_labelled : (get_or marks s 0 / 4 ≡ 0 → ⊥) → member s labels ≡ true
   mark_labelled high = go (member s labels) refl
     where
       go : (b : Bool) → member s labels ≡ b → member s labels ≡ true
       go true e = e
       go false e = absurd (high (omega (arith, m.labels_are s, label_none labels s e)))
 
-  pub mark_label : (get_or marks s 0 < 4 → ⊥) → get_or marks s 0 / 4 - 1 ≡ place_in labels s
+  pub mark_label : (get_or marks s 0 / 4 ≡ 0 → ⊥) → get_or marks s 0 / 4 - 1 ≡ place_in labels s
   mark_label high = omega (arith, m.labels_are s, label_some labels s (mark_labelled high))
 
   pub mark_begun : get_or marks s 0 % 4 ≡ 2 → member s begun ≡ true
@@ -209,9 +212,9 @@ module _ (labels begun marks : List ℕ) (m : Marks labels begun marks) (s : ℕ
   mark_not_begun d = sym (m.begun_are s) ∙ ne_eqb (get_or marks s 0 % 4) 2 d
 
   -- its definition begins
-  pub marks_begin : s < length marks → Marks labels (s ∷ begun) (set marks s (get_or marks s 0 / 4 * 4 + 2))
+  pub marks_begin : s < length marks → Marks labels (s ∷ begun) (set marks s (4 * (get_or marks s 0 / 4) + 2))
   marks_begin small =
-      let v = get_or marks s 0 / 4 * 4 + 2 in
+      let v = 4 * (get_or marks s 0 / 4) + 2 in
       let here : get_or (set marks s v) s 0 ≡ v = get_or-set_same marks s v 0 small in
       record {
         labels_are =
@@ -233,5 +236,5 @@ module _ (labels begun marks : List ℕ) (m : Marks labels begun marks) (s : ℕ
             ];
       }
     where
-      quarter : (y : ℕ) → (y / 4 * 4 + 2) / 4 ≡ y / 4
+      quarter : (y : ℕ) → (4 * (y / 4) + 2) / 4 ≡ y / 4
       quarter y = omega arith

@@ -1,6 +1,8 @@
 -- What each part of the build is given and must leave: the output and the scratch afterwards are those of the draft. Assumes
 -- nothing.
 use Rattle.std.specs.Prelude.{◌≡◌, true, false, List, ℕ, suc, ◌+◌, ◌*◌, ◌/◌, ◌%◌, ◌≤◌, ◌<◌, eqb, length, get_or}
+use Rattle.std.specs.Prelude as code
+use Rattle.std.specs.Prelude.{Some, None}
 use Rattle.std.proofs.Math.Option.{Option, none, some}
 use Rattle.laws.specs.Basics.{every, member}
 use Rattle.rules.specs.Cells.{Value, slot, block}
@@ -21,7 +23,6 @@ pub record Marks (labels begun marks : List ℕ) : Type 0 where
 
 -- a draft stands in the lists; `start` is the output as it was, and a node has 4,101 bytes at most
 pub record Shows (labels start : List ℕ) (d : Draft) (p : Page) (marks out : List ℕ) : Type 0 where
-  pub on : p.over ≡ false
   pub left_is : p.left ≡ d.left
   pub at_is : p.at ≡ length d.text
   pub out_is : out ≡ stored start 0 d.text
@@ -32,10 +33,12 @@ pub record Made (labels start : List ℕ) (bound : ℕ) (d : Draft) (p : Page) (
   pub shows : Shows labels start d p marks out
   pub below : p.left < bound
 
--- the draft that a part leaves, with fewer nodes left than the bound; or the page is over
-unfoldable pub LeftBy : List ℕ → List ℕ → ℕ → Option Draft → Page → List ℕ → List ℕ → Type 0
-LeftBy labels start bound none p marks out = p.over ≡ true
-LeftBy labels start bound (some d) p marks out = Made labels start bound d p marks out
+-- the draft that a part leaves, with fewer nodes left than the bound, and its page; or neither
+unfoldable pub LeftBy : List ℕ → List ℕ → ℕ → Option Draft → code.Option Page → List ℕ → List ℕ → Type 0
+LeftBy labels start bound none None marks out = Unit {0}
+LeftBy labels start bound none (Some p) marks out = ⊥
+LeftBy labels start bound (some d) None marks out = ⊥
+LeftBy labels start bound (some d) (Some p) marks out = Made labels start bound d p marks out
 
 -- a build on its way: the heap and its labels, how deep it may go, the draft so far, and the output as it was
 pub record Job : Type 0 where
@@ -63,32 +66,32 @@ pub record Task (j : Job) (s : ℕ) (p : Page) (words bytes elems marks out : Li
   pub ready : Ready j j.depth p words bytes elems marks out
   pub used : in_use j.heap s ≡ true
 
-pub record Done (j : Job) (s : ℕ) (p : Page) (marks out : List ℕ) : Type 0 where
-  pub left : LeftBy j.labels j.start j.draft.left (inside j (slot s) j.draft) p marks out
+pub record Done (j : Job) (s : ℕ) (r : code.Option Page) (marks out : List ℕ) : Type 0 where
+  pub left : LeftBy j.labels j.start j.draft.left (inside j (slot s) j.draft) r marks out
 
 -- its cell: what the cell holds goes as deep as the job says
 pub record CellTask (j : Job) (s : ℕ) (p : Page) (words bytes elems marks out : List ℕ) : Type 0 where
   pub ready : Ready j (suc j.depth) p words bytes elems marks out
   pub used : in_use j.heap s ≡ true
 
-pub record CellDone (j : Job) (s : ℕ) (p : Page) (marks out : List ℕ) : Type 0 where
-  pub left : LeftBy j.labels j.start j.draft.left (draft_cell (inside j) j.heap (cell_at j.heap s) j.draft) p marks out
+pub record CellDone (j : Job) (s : ℕ) (r : code.Option Page) (marks out : List ℕ) : Type 0 where
+  pub left : LeftBy j.labels j.start j.draft.left (draft_cell (inside j) j.heap (cell_at j.heap s) j.draft) r marks out
 
 pub record PairTask (j : Job) (a d : ℕ) (p : Page) (words bytes elems marks out : List ℕ) : Type 0 where
   pub ready : Ready j (suc j.depth) p words bytes elems marks out
   pub car_used : in_use j.heap a ≡ true
   pub cdr_used : in_use j.heap d ≡ true
 
-pub record PairDone (j : Job) (a d : ℕ) (p : Page) (marks out : List ℕ) : Type 0 where
-  pub left : LeftBy j.labels j.start j.draft.left (draft_pair (inside j) a d j.draft) p marks out
+pub record PairDone (j : Job) (a d : ℕ) (r : code.Option Page) (marks out : List ℕ) : Type 0 where
+  pub left : LeftBy j.labels j.start j.draft.left (draft_pair (inside j) a d j.draft) r marks out
 
 pub record VectorTask (j : Job) (place n : ℕ) (p : Page) (words bytes elems marks out : List ℕ) : Type 0 where
   pub ready : Ready j (suc j.depth) p words bytes elems marks out
   pub within : place + n ≤ length j.heap.elements
   pub named : every (value_named j.heap) (elements_of j.heap (block place n)) ≡ true
 
-pub record VectorDone (j : Job) (place n : ℕ) (p : Page) (marks out : List ℕ) : Type 0 where
-  pub left : LeftBy j.labels j.start j.draft.left (draft_vector (inside j) (elements_of j.heap (block place n)) j.draft) p marks out
+pub record VectorDone (j : Job) (place n : ℕ) (r : code.Option Page) (marks out : List ℕ) : Type 0 where
+  pub left : LeftBy j.labels j.start j.draft.left (draft_vector (inside j) (elements_of j.heap (block place n)) j.draft) r marks out
 
 -- a vector's elements
 pub record ElementsTask (j : Job) (place n : ℕ) (p : Page) (words bytes elems marks out : List ℕ) : Type 0 where
@@ -96,8 +99,8 @@ pub record ElementsTask (j : Job) (place n : ℕ) (p : Page) (words bytes elems 
   pub within : place + n ≤ length j.heap.elements
   pub named : every (value_named j.heap) (elements_of j.heap (block place n)) ≡ true
 
-pub record ElementsDone (j : Job) (place n : ℕ) (p : Page) (marks out : List ℕ) : Type 0 where
-  pub left : LeftBy j.labels j.start (suc j.draft.left) (draft_all (inside j) (elements_of j.heap (block place n)) j.draft) p marks out
+pub record ElementsDone (j : Job) (place n : ℕ) (r : code.Option Page) (marks out : List ℕ) : Type 0 where
+  pub left : LeftBy j.labels j.start (suc j.draft.left) (draft_all (inside j) (elements_of j.heap (block place n)) j.draft) r marks out
 
 -- one of them
 pub record ElementTask (j : Job) (place : ℕ) (p : Page) (words bytes elems marks out : List ℕ) : Type 0 where
@@ -105,5 +108,5 @@ pub record ElementTask (j : Job) (place : ℕ) (p : Page) (words bytes elems mar
   pub within : place < length j.heap.elements
   pub named : value_named j.heap (element_at j.heap place) ≡ true
 
-pub record ElementDone (j : Job) (place : ℕ) (p : Page) (marks out : List ℕ) : Type 0 where
-  pub left : LeftBy j.labels j.start j.draft.left (inside j (element_at j.heap place) j.draft) p marks out
+pub record ElementDone (j : Job) (place : ℕ) (r : code.Option Page) (marks out : List ℕ) : Type 0 where
+  pub left : LeftBy j.labels j.start j.draft.left (inside j (element_at j.heap place) j.draft) r marks out

@@ -10,153 +10,133 @@
 ghost use Rattle.heap_build.specs.Tasks.{Job, Task, Done, CellTask, CellDone, PairTask, PairDone, VectorTask, VectorDone, ElementsTask, ElementsDone, ElementTask, ElementDone};
 
 use leaf_cells::{VCell, Value};
+use leaf_lists::Lists;
 use leaf_write::Page;
 
 // Builds what a slot shows: a labelled one is a definition at first meeting and a reference later.
 #[cycle(building)]
 pub fn build(
-    words: &[u64],
-    bytes: &[u8],
-    elems: &[u64],
+    heap: Lists<'_>,
     marks: &mut [u64],
     out: &mut [u8],
     slot: usize,
     p: Page,
-) -> Page
-    requires { (j : Job) × Task j slot p words.now bytes.now elems.now marks.old out.old }
-    ensures { (j : Job) → Task j slot p words.now bytes.now elems.now marks.old out.old → Done j slot result marks.new out.new }
+) -> Option<Page>
+    requires { (j : Job) × Task j slot p heap.words.now heap.bytes.now heap.elems.now marks.old out.old }
+    ensures { (j : Job) → Task j slot p heap.entry.words.now heap.entry.bytes.now heap.entry.elems.now marks.old out.old → Done j slot result marks.new out.new }
 {
     let m = marks[slot];
-    let mut q = p;
-    if m >= 4 {
-        if m % 4 == 2 {
-            return leaf_write::field(out, 13, 4, m / 4 - 1, p);
-        }
-        marks[slot] = m / 4 * 4 + 2;
-        q = leaf_write::field(out, 12, 4, m / 4 - 1, p);
-        if q.over {
-            return q;
+    match (m / 4, m % 4) {
+        (0, _) => build_cell(heap, marks, out, slot, p),
+        (label, 2) => leaf_write::field(out, 13, 4, label - 1, p),
+        (label, _) => {
+            marks[slot] = 4 * label + 2;
+            let head = leaf_write::field(out, 12, 4, label - 1, p)?;
+            build_cell(heap, marks, out, slot, head)
         }
     }
-    build_cell(words, bytes, elems, marks, out, slot, q)
 }
 
 // Builds a slot's cell.
 #[cycle(building)]
 fn build_cell(
-    words: &[u64],
-    bytes: &[u8],
-    elems: &[u64],
+    heap: Lists<'_>,
     marks: &mut [u64],
     out: &mut [u8],
     slot: usize,
     p: Page,
-) -> Page
-    requires { (j : Job) × CellTask j slot p words.now bytes.now elems.now marks.old out.old }
-    ensures { (j : Job) → CellTask j slot p words.now bytes.now elems.now marks.old out.old → CellDone j slot result marks.new out.new }
+) -> Option<Page>
+    requires { (j : Job) × CellTask j slot p heap.words.now heap.bytes.now heap.elems.now marks.old out.old }
+    ensures { (j : Job) → CellTask j slot p heap.entry.words.now heap.entry.bytes.now heap.entry.elems.now marks.old out.old → CellDone j slot result marks.new out.new }
 {
-    let cell = leaf_cells::load(words, slot);
-    match cell {
-        VCell::Pair(a, d) => build_pair(words, bytes, elems, marks, out, a, d, p),
-        VCell::Vector(place, n) => build_vector(words, bytes, elems, marks, out, place, n, p),
-        VCell::Symbol(place, n) => leaf_write::text(out, 8, leaf_rooms::text(bytes, place, n), p),
-        VCell::String(place, n) => leaf_write::text(out, 7, leaf_rooms::text(bytes, place, n), p),
-        _ => leaf_write::scalar(out, leaf_cells::cell_words(cell), p),
+    match leaf_cells::load(heap.words, slot) {
+        VCell::Pair(a, d) => build_pair(heap, marks, out, a, d, p),
+        VCell::Vector(place, n) => build_vector(heap, marks, out, place, n, p),
+        VCell::Symbol(place, n) => leaf_write::text(
+            out,
+            8,
+            leaf_rooms::text(heap.bytes, place, n),
+            p,
+        ),
+        VCell::String(place, n) => leaf_write::text(
+            out,
+            7,
+            leaf_rooms::text(heap.bytes, place, n),
+            p,
+        ),
+        cell => leaf_write::scalar(out, leaf_cells::cell_words(cell), p),
     }
 }
 
 // A pair: car, then cdr.
 #[cycle(building)]
 fn build_pair(
-    words: &[u64],
-    bytes: &[u8],
-    elems: &[u64],
+    heap: Lists<'_>,
     marks: &mut [u64],
     out: &mut [u8],
     a: usize,
     d: usize,
     p: Page,
-) -> Page
-    requires { (j : Job) × PairTask j a d p words.now bytes.now elems.now marks.old out.old }
-    ensures { (j : Job) → PairTask j a d p words.now bytes.now elems.now marks.old out.old → PairDone j a d result marks.new out.new }
+) -> Option<Page>
+    requires { (j : Job) × PairTask j a d p heap.words.now heap.bytes.now heap.elems.now marks.old out.old }
+    ensures { (j : Job) → PairTask j a d p heap.entry.words.now heap.entry.bytes.now heap.entry.elems.now marks.old out.old → PairDone j a d result marks.new out.new }
 {
-    let head = leaf_write::field(out, 9, 0, 0, p);
-    if head.over {
-        return head;
-    }
-    let car = build(words, bytes, elems, marks, out, a, head);
-    if car.over {
-        return car;
-    }
-    build(words, bytes, elems, marks, out, d, car)
+    let head = leaf_write::field(out, 9, 0, 0, p)?;
+    let car = build(heap, marks, out, a, head)?;
+    build(heap, marks, out, d, car)
 }
 
 // A vector: how many elements, then each.
 #[cycle(building)]
 fn build_vector(
-    words: &[u64],
-    bytes: &[u8],
-    elems: &[u64],
+    heap: Lists<'_>,
     marks: &mut [u64],
     out: &mut [u8],
     place: usize,
     n: usize,
     p: Page,
-) -> Page
-    requires { (j : Job) × VectorTask j place n p words.now bytes.now elems.now marks.old out.old }
-    ensures { (j : Job) → VectorTask j place n p words.now bytes.now elems.now marks.old out.old → VectorDone j place n result marks.new out.new }
+) -> Option<Page>
+    requires { (j : Job) × VectorTask j place n p heap.words.now heap.bytes.now heap.elems.now marks.old out.old }
+    ensures { (j : Job) → VectorTask j place n p heap.entry.words.now heap.entry.bytes.now heap.entry.elems.now marks.old out.old → VectorDone j place n result marks.new out.new }
 {
-    let head = leaf_write::field(out, 10, 4, n as u64, p);
-    if head.over {
-        return head;
-    }
-    build_elements(words, bytes, elems, marks, out, place, n, head)
+    let head = leaf_write::field(out, 10, 4, n as u64, p)?;
+    build_elements(heap, marks, out, place, n, head)
 }
 
 // The n elements from a place on.
 #[cycle(building)]
 fn build_elements(
-    words: &[u64],
-    bytes: &[u8],
-    elems: &[u64],
+    heap: Lists<'_>,
     marks: &mut [u64],
     out: &mut [u8],
     place: usize,
     n: usize,
     p: Page,
-) -> Page
-    requires { (j : Job) × ElementsTask j place n p words.now bytes.now elems.now marks.old out.old }
-    ensures { (j : Job) → ElementsTask j place n p words.now bytes.now elems.now marks.old out.old → ElementsDone j place n result marks.new out.new }
+) -> Option<Page>
+    requires { (j : Job) × ElementsTask j place n p heap.words.now heap.bytes.now heap.elems.now marks.old out.old }
+    ensures { (j : Job) → ElementsTask j place n p heap.entry.words.now heap.entry.bytes.now heap.entry.elems.now marks.old out.old → ElementsDone j place n result marks.new out.new }
 {
     let mut q = p;
-    let mut i = 0;
-    while i < n {
-        q = build_element(words, bytes, elems, marks, out, place + i, q);
-        if q.over {
-            return q;
-        }
-        i += 1;
+    for i in 0..n {
+        q = build_element(heap, marks, out, place + i, q)?;
     }
-    q
+    Some(q)
 }
 
 // The element at a place.
 #[cycle(building)]
 fn build_element(
-    words: &[u64],
-    bytes: &[u8],
-    elems: &[u64],
+    heap: Lists<'_>,
     marks: &mut [u64],
     out: &mut [u8],
     place: usize,
     p: Page,
-) -> Page
-    requires { (j : Job) × ElementTask j place p words.now bytes.now elems.now marks.old out.old }
-    ensures { (j : Job) → ElementTask j place p words.now bytes.now elems.now marks.old out.old → ElementDone j place result marks.new out.new }
+) -> Option<Page>
+    requires { (j : Job) × ElementTask j place p heap.words.now heap.bytes.now heap.elems.now marks.old out.old }
+    ensures { (j : Job) → ElementTask j place p heap.entry.words.now heap.entry.bytes.now heap.entry.elems.now marks.old out.old → ElementDone j place result marks.new out.new }
 {
-    let v = leaf_cells::load_element(elems, place);
-    match v {
-        Value::Slot(s) => build(words, bytes, elems, marks, out, s, p),
-        _ => leaf_write::scalar(out, leaf_cells::value_words(v), p),
+    match leaf_cells::load_element(heap.elems, place) {
+        Value::Slot(s) => build(heap, marks, out, s, p),
+        v => leaf_write::scalar(out, leaf_cells::value_words(v), p),
     }
 }

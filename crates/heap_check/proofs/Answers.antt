@@ -9,8 +9,8 @@ use Rattle.laws.proofs.Options.{none_some}
 use Rattle.rules.specs.Refusals.{Refusal, malformed}
 use Rattle.rules.specs.Datum.{Datum, encode, Parse, good, bad, parse, datum_fits, within_limits, early_reference}
 use Rattle.rules.proofs.Datum.{encode_parse, parse_fits}
-use Rattle.heap_check.specs.declared.Checked.{Checked}
-use Rattle.heap_check.specs.declared.Checked.TheVariants.{Good}
+use Rattle.std.specs.Prelude.{Result, Ok}
+use Rattle.refusals.specs.declared.Refusal as code
 use Rattle.heap_tally.specs.Pass.{limits}
 use Rattle.heap_check.specs.Verdict.{verdict, checked_of}
 
@@ -29,7 +29,7 @@ passes true true h = absurd (none_some (sym h))
 passes true false h = (refl, refl)
 passes false e h = absurd (none_some (sym h))
 
-pub accepted : (bs : List ℕ) (r : Checked) → all_bytes bs ≡ true → checked_of r ≡ verdict bs → r ≡ Good → Accepted bs
+pub accepted : (bs : List ℕ) (r : Result (Unit {0}) code.Refusal) → all_bytes bs ≡ true → checked_of r ≡ verdict bs → r ≡ Ok tt → Accepted bs
 unfolding verdict
 accepted bs r h is e = go (parse bs) refl (sym is ∙ ap checked_of e)
   where

@@ -17,16 +17,17 @@ use Rattle.rules.specs.Datum.{Datum, nodes, Parsed, parsed, fault, then, datum_a
 use Rattle.rules.proofs.Flat.{follow, flat, enough, one_pass, shorter, still_bytes}
 use Rattle.leaf_nodes.specs.declared.Fault.{Fault}
 use Rattle.leaf_nodes.specs.declared.Fault.TheVariants.{LeftOver}
-use Rattle.leaf_nodes.specs.declared.Node.TheVariants as leaf_node
 use Rattle.leaf_nodes.specs.declared.Read.{Read}
 use Rattle.leaf_nodes.specs.Reads.{fault_of, text_of, as_read, ReadAs, reads_rules}
-use Rattle.leaf_nodes.proofs.Laws.{NodeAt, node_at, as_shown, text_long, good_node, all_small}
+use Rattle.leaf_nodes.proofs.Laws.{NodeAt, node_at, text_long, good_node, all_small}
 use Rattle.heap_tally.specs.declared.Tally as code
-use Rattle.heap_check.specs.declared.Checked.{Checked}
-use Rattle.heap_check.specs.declared.Checked.TheVariants.{Malformed}
+use Rattle.refusals.specs.declared.Refusal as code_refusal
+use Rattle.refusals.specs.declared.Refusal.TheVariants.{Malformed}
+use Rattle.std.specs.Prelude.{Result, Ok, Err}
 use Rattle.heap_tally.specs.Pass.{limits}
 use Rattle.heap_check.specs.Verdict.{verdict, checked_of}
-use Rattle.heap_tally.specs.Pass.{Tally, tally, mentioned, counted, stepped, judged, capped, tally_of, Shown, Kept, Tells, pass_rules}
+use Rattle.heap_tally.specs.Pass.{Tally, tally, mentioned, counted, stepped, judged, capped, tally_of, Shown, pass_rules}
+use Rattle.std.proofs.Common.{Fits, w8}
 use Rattle.heap_tally.proofs.TallyLaws.{run_on, tally_datum}
 
 -- what is answered where the nodes that are left are these
@@ -143,18 +144,15 @@ ends_well t (b ∷ bs) h = absurd (omega arith)
 
 -- ---- as the code has it
 
-module _ (bs : List ℕ) (at w : ℕ) (t : Tally) (r : Read) (a : ReadAs (drop at bs) r) (h : 0 < w) (whole : verdict bs ≡ pass t w (drop at bs)) where
-  pub stops : (f : Fault) → r.node ≡ leaf_node.Faulty f → checked_of (Malformed f t.nodes) ≡ verdict bs
-  stops f e =
-      sym
-      (whole
-      ∙ faults t w (drop at bs) (fault_of f) h
-      (sym a.shows.is ∙ as_shown (drop at bs) r (leaf_node.Faulty f) e))
+module _ (bs : List ℕ) (at w : ℕ) (t : Tally) (h : 0 < w) (whole : verdict bs ≡ pass t w (drop at bs)) where
+  pub stops : (f : Fault) → ReadAs (drop at bs) (Err f) → checked_of (Err (Malformed f t.nodes)) ≡ verdict bs
+  unfolding reads_rules
+  stops f a = sym (whole ∙ faults t w (drop at bs) (fault_of f) h (sym a.is))
 
-  module _ (good : (f : Fault) → r.node ≡ leaf_node.Faulty f → ⊥) where
-    found : (n : Node) × (as_read (drop at bs) r ≡ reads n (drop r.size (drop at bs)))
+  module _ (r : Read) (a : ReadAs (drop at bs) (Ok r)) where
+    found : (n : Node) × (as_read (drop at bs) (Ok r) ≡ reads n (drop r.size (drop at bs)))
     unfolding reads_rules
-    found = good_node r.node (text_of (drop at bs) r.node r.size) (drop r.size (drop at bs)) good
+    found = good_node r.node (text_of (drop at bs) r.node r.size) (drop r.size (drop at bs))
 
     -- the rules' node that was read
     pub the_node : Node
@@ -190,55 +188,53 @@ module _ (bs : List ℕ) (at w : ℕ) (t : Tally) (r : Read) (a : ReadAs (drop a
 pub record Going (bs : List ℕ) (t : code.Tally) (at wanted : ℕ) : Type 0 where
   pub within : at ≤ length bs
   pub counted : t.nodes ≤ at
-  pub kept : Kept t
   pub whole : verdict bs ≡ pass (tally_of t) wanted (drop at bs)
 
-pub going_begins : (bs : List ℕ) (t : code.Tally) → ((i : ℕ) → get_or bs i 0 < 256) → Tells t (tally 0 false false []) → Going bs t 0 1
+pub going_begins : (bs : List ℕ) (t : code.Tally) → ((i : ℕ) → Fits w8 (get_or bs i 0)) → tally_of t ≡ tally 0 false false [] → Going bs t 0 1
 unfolding nodes_rules
 going_begins bs t small told =
     record {
       within = omega arith;
-      counted = omega (arith, ap (λ (t : Tally). t.nodes) told.is);
-      kept = told.kept;
-      whole = begins bs (all_small bs small) ∙ ap (λ (t : Tally). pass t 1 bs) (sym told.is);
+      counted = omega (arith, ap (λ (t : Tally). t.nodes) told);
+      whole = begins bs (all_small bs (λ i. omega (arith, small i))) ∙ ap (λ (t : Tally). pass t 1 bs) (sym told);
     }
 
-module _ (bs : List ℕ) (at wanted : ℕ) (t : code.Tally) (r : Read) (g : Going bs t at wanted) (part : ReadAs (take (length bs - at) (drop at bs)) r) (h : 0 < wanted) where
-  here : ReadAs (drop at bs) r
-  here =
-      subst (λ (l : List ℕ). ReadAs l r)
+module _ (bs : List ℕ) (at wanted : ℕ) (t : code.Tally) (g : Going bs t at wanted) (h : 0 < wanted) where
+  here : {r s : Result Read Fault} → ReadAs (take (length bs - at) (drop at bs)) r → r ≡ s → ReadAs (drop at bs) s
+  here {s = s} part e =
+      subst (λ (l : List ℕ). ReadAs l s)
       (take_all (length bs - at) (drop at bs) (omega (arith, length-drop at bs)))
-      part
+      (subst (λ (r : Result Read Fault). ReadAs (take (length bs - at) (drop at bs)) r) e part)
 
-  pub turn_stops : (f : Fault) → r.node ≡ leaf_node.Faulty f → checked_of (Malformed f t.nodes) ≡ verdict bs
-  turn_stops f e = stops bs at wanted (tally_of t) r here h g.whole f e
+  module _ {r : Result Read Fault} (part : ReadAs (take (length bs - at) (drop at bs)) r) where
+    pub turn_stops : (f : Fault) → r ≡ Err f → checked_of (Err (Malformed f t.nodes)) ≡ verdict bs
+    turn_stops f e = stops bs at wanted (tally_of t) h g.whole f (here part e)
 
-  pub turn_inside : at + r.size ≤ length bs
-  turn_inside = omega (arith, here.shows.inside, length-drop at bs, g.within)
+    module _ (read : Read) (e : r ≡ Ok read) where
+      pub turn_inside : (1 ≤ read.size) × (at + read.size ≤ length bs)
+      turn_inside = (
+        (node_here bs at wanted (tally_of t) h g.whole read (here part e)).some,
+        omega (arith, (here part e).placed.inside, length-drop at bs, g.within),
+      )
 
-  module _ (good : (f : Fault) → r.node ≡ leaf_node.Faulty f → ⊥) where
-    pub turn_some : 1 ≤ r.size
-    turn_some = (node_here bs at wanted (tally_of t) r here h g.whole good).some
-
-    pub turn_goes : (next : code.Tally) (more w : ℕ) → ((n : Node) → Shown r.node n → Tells next (stepped (tally_of t) n)) → ((n : Node) → Shown r.node n → more ≡ follow n) → w ≡ capped (length bs - (at + r.size)) (more + (wanted - 1)) → Going bs next (at + r.size) w
-    turn_goes next more w told follows e =
-        let n = the_node bs at wanted (tally_of t) r here h g.whole good in
-        let s = node_shown bs at wanted (tally_of t) r here h g.whole good in
-        record {
-          within = turn_inside;
-          counted =
-              omega
-              (arith, g.counted, turn_some, ap (λ (t : Tally). t.nodes) (told n s).is ∙ stepped_nodes (tally_of t) n);
-          kept = (told n s).kept;
-          whole = goes_on bs at wanted (tally_of t) r here h g.whole good (tally_of next) more w (told n s).is (follows n s) e;
-        }
+      pub turn_goes : (next : code.Tally) (more w : ℕ) → ((n : Node) → Shown read.node n → tally_of next ≡ stepped (tally_of t) n) → ((n : Node) → Shown read.node n → more ≡ follow n) → w ≡ capped (length bs - (at + read.size)) (more + (wanted - 1)) → Going bs next (at + read.size) w
+      turn_goes next more w told follows q =
+          let n = the_node bs at wanted (tally_of t) h g.whole read (here part e) in
+          let s = node_shown bs at wanted (tally_of t) h g.whole read (here part e) in
+          record {
+            within = turn_inside.1;
+            counted =
+                omega
+                (arith, g.counted, turn_inside.0, ap (λ (t : Tally). t.nodes) (told n s) ∙ stepped_nodes (tally_of t) n);
+            whole = goes_on bs at wanted (tally_of t) h g.whole read (here part e) (tally_of next) more w (told n s) (follows n s) q;
+          }
 
 module _ (bs : List ℕ) (at wanted : ℕ) (t : code.Tally) (g : Going bs t at wanted) (none : wanted ≡ 0) where
   at_end : verdict bs ≡ pass (tally_of t) 0 (drop at bs)
   at_end = g.whole ∙ ap (λ (w : ℕ). pass (tally_of t) w (drop at bs)) none
 
-  pub turn_over : at < length bs → checked_of (Malformed LeftOver t.nodes) ≡ verdict bs
+  pub turn_over : at < length bs → checked_of (Err (Malformed LeftOver t.nodes)) ≡ verdict bs
   turn_over h = sym (at_end ∙ ends_over (tally_of t) (drop at bs) (omega (arith, length-drop at bs)))
 
-  pub turn_judged : (r : Checked) → length bs ≤ at → checked_of r ≡ judged (tally_of t) → checked_of r ≡ verdict bs
+  pub turn_judged : (r : Result (Unit {0}) code_refusal.Refusal) → length bs ≤ at → checked_of r ≡ judged (tally_of t) → checked_of r ≡ verdict bs
   turn_judged r h e = e ∙ sym (at_end ∙ ends_well (tally_of t) (drop at bs) (omega (arith, length-drop at bs)))

@@ -8,55 +8,48 @@ ghost use Rattle.std.specs.Prelude.{◌≡◌};
 ghost use Rattle.heap_check.specs.Verdict.{verdict, checked_of};
 ghost use Rattle.heap_tally.specs.Pass.{tally_of, judged};
 
-// What a datum is found to be. A malformed one says what is wrong and at which node, counted from 0 in the datum's order.
-#[derive(Clone, Copy)]
-pub enum Checked {
-    Good,
-    Malformed(leaf_nodes::Fault, usize),
-    OverLimit,
-    EarlyLabel,
-}
+use heap_tally::Tally;
+use leaf_nodes::Fault;
+use refusals::Refusal;
 
-// "4,096 nodes", and 12 before 13.
-fn judge(t: heap_tally::Tally) -> Checked
-    ensures { checked_of result ≡ judged (tally_of t) }
+// "4,096 nodes"
+const NODES: u64 = 4096;
+
+// 12 before 13.
+fn judge(tally: &Tally) -> Result<(), Refusal>
+    ensures { checked_of result ≡ judged (tally_of tally.now) }
 {
-    if 4096 < t.nodes {
-        return Checked::OverLimit;
-    }
-    if t.over {
-        return Checked::OverLimit;
-    }
-    if t.early {
-        Checked::EarlyLabel
+    if tally.nodes > NODES || tally.over {
+        Err(Refusal::OverLimit)
+    } else if tally.early {
+        Err(Refusal::EarlyLabel)
     } else {
-        Checked::Good
+        Ok(())
     }
 }
 
-// The check of a whole datum.
-pub fn check(datum: &[u8]) -> Checked
+// The check of a whole datum. A malformed one also says what is wrong and at which node, counted from 0 in the datum's order.
+pub fn check(datum: &[u8]) -> Result<(), Refusal>
     ensures { checked_of result ≡ verdict datum.now }
 {
-    let mut t = heap_tally::start();
+    let mut tally = Tally::new();
     let mut at = 0;
     let mut wanted = 1;
     while wanted > 0 {
-        let read = leaf_nodes::read_node(&datum[at..]);
-        let node = read.node;
-        if let leaf_nodes::Node::Faulty(f) = node {
-            return Checked::Malformed(f, t.nodes);
-        }
+        let read = leaf_nodes::read_node(&datum[at..]).map_err(|fault| Refusal::Malformed(
+            fault,
+            tally.nodes,
+        ))?;
         at += read.size;
         wanted = heap_tally::still_wanted(
             wanted - 1,
-            heap_tally::following(node),
+            heap_tally::following(read.node),
             datum.len() - at,
         );
-        t = heap_tally::step(t, node);
+        tally.step(read.node);
     }
     if at < datum.len() {
-        return Checked::Malformed(leaf_nodes::Fault::LeftOver, t.nodes);
+        return Err(Refusal::Malformed(Fault::LeftOver, tally.nodes));
     }
-    judge(t)
+    judge(&tally)
 }

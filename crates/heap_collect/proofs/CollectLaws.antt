@@ -38,9 +38,6 @@ module _ (words map bytes elems scratch roots : List ℕ) (k : Ready (lists word
   good : Good h
   good = sound_good l k.lists_sound
 
-  pub can_marks : CanMark words map elems scratch roots
-  can_marks = can_mark words map bytes elems k.lists_sound scratch roots k.in_use_all k.room
-
   pub can_sweep : (map₁ : List ℕ) → map₁ ≡ marked_map words map elems roots → CanDrop words map₁
   can_sweep map₁ e =
       subst (CanDrop words) (sym e) (can_collect words map bytes elems roots k.lists_sound k.in_use_all small)
@@ -51,7 +48,7 @@ module _ (words map bytes elems scratch roots : List ℕ) (k : Ready (lists word
   swept_is map₁ words₂ map₂ e s =
       s ∙ ap (λ (m : List ℕ). sweep_dropped (swept words m)) e ∙ collected words map bytes elems roots k.lists_sound k.in_use_all small
 
-  pub can_pack : (map₁ words₂ map₂ : List ℕ) → map₁ ≡ marked_map words map elems roots → swept words₂ map₂ ≡ sweep_dropped (swept words map₁) → PackGiven n (swept_heap roots h) (rooms_of l) words₂ bytes elems
+  can_pack : (map₁ words₂ map₂ : List ℕ) → map₁ ≡ marked_map words map elems roots → swept words₂ map₂ ≡ sweep_dropped (swept words map₁) → PackGiven n (swept_heap roots h) (rooms_of l) words₂ bytes elems
   unfolding layout_rules
   can_pack map₁ words₂ map₂ e s =
       let w = swept_so roots h in
@@ -91,6 +88,11 @@ module _ (words map bytes elems scratch roots : List ℕ) (k : Ready (lists word
             };
       }
 
+  -- the elements as they are at hand
+  pub pack_given : (map₁ words₂ map₂ elems₂ : List ℕ) → map₁ ≡ marked_map words map elems roots → swept words₂ map₂ ≡ sweep_dropped (swept words map₁) → elems₂ ≡ elems → PackGiven n (swept_heap roots h) (rooms_of l) words₂ bytes elems₂
+  pack_given map₁ words₂ map₂ elems₂ e s f =
+      subst (λ (es : List ℕ). PackGiven n (swept_heap roots h) (rooms_of l) words₂ bytes es) (sym f) (can_pack map₁ words₂ map₂ e s)
+
   pub collects : (map₁ words₂ map₂ words₃ bytes₃ elems₃ : List ℕ) → map₁ ≡ marked_map words map elems roots → swept words₂ map₂ ≡ sweep_dropped (swept words map₁) → AllPacked n (swept_heap roots h) (rooms_of l) words₃ bytes₃ elems₃ → lists words₃ map₂ bytes₃ elems₃ ≡ lent_of (rooms_of l) (collect roots h)
   unfolding swept_heap layout_rules collect_rules
   collects map₁ words₂ map₂ words₃ bytes₃ elems₃ e s p =
@@ -101,6 +103,10 @@ module _ (words map bytes elems scratch roots : List ℕ) (k : Ready (lists word
         bytes = p.bytes_are i;
         elems = p.elems_are i;
       }
+
+pub can_marks : (words map bytes elems scratch roots : List ℕ) → Ready (lists words map bytes elems) scratch roots → CanMark words map elems scratch roots
+can_marks words map bytes elems scratch roots k =
+    can_mark words map bytes elems k.lists_sound scratch roots k.in_use_all k.room
 
 pub clears : (scratch dirty clean : List ℕ) → length dirty ≡ length scratch → clean ≡ zeros (length dirty) → clean ≡ cleared scratch
 unfolding cleared

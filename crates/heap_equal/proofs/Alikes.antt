@@ -18,10 +18,10 @@ use Rattle.leaf_cells.specs.Elements.{value_of}
 use Rattle.leaf_cells.specs.declared.Value as given
 use Rattle.leaf_cells.specs.declared.Value.TheVariants as value
 use Rattle.heap_eqv.specs.Eqv.{Comparable}
+use Rattle.std.specs.Prelude.{Some, None}
+use Rattle.std.specs.Prelude as code
 use Rattle.heap_equal.specs.declared.Parts.{Parts}
 use Rattle.heap_equal.specs.declared.Parts.TheVariants.{Unlike}
-use Rattle.heap_equal.specs.declared.Next.{Next}
-use Rattle.heap_equal.specs.declared.Next.TheVariants as next
 use Rattle.heap_equal.specs.Parts.{parted, wanted, part_rules}
 use Rattle.heap_equal.specs.Boards.{CanJoinAlike, AlikeJoined, stacked, PairPushed, Ready, Moved, by_eqv, NextTold, UsedSlots}
 use Rattle.heap_equal.proofs.CellParts.{unlike_fails, like_needs}
@@ -78,7 +78,7 @@ module _ (l : Lent) (c : ℕ) (sc : List ℕ) (top : ℕ) where
 
     module _ (r : Bool) (sc' : List ℕ) (told : AlikeJoined c sc s t sc' r) where
       -- of one class already
-      pub slots_known : not r ≡ true → NextTold h c (goal ∷ []) sc top sc' (next.Height top)
+      pub slots_known : not r ≡ true → NextTold h c (goal ∷ []) sc top sc' (Some top)
       unfolding NextTold
       slots_known e =
           alike_known h c sc top pre.0.shape s t inside.0 inside.1 r sc' told (not-true r e)
@@ -93,7 +93,7 @@ module _ (l : Lent) (c : ℕ) (sc : List ℕ) (top : ℕ) where
             alike_taken h c sc top pre.0.shape s t inside.0 inside.1 r sc' told (not-false r fresh)
 
         -- "true if `eqv`"
-        pub slots_eqv : same ≡ true → NextTold h c (goal ∷ []) sc top sc' (next.Height top)
+        pub slots_eqv : same ≡ true → NextTold h c (goal ∷ []) sc top sc' (Some top)
         unfolding NextTold
         slots_eqv e = taken [] (step_eqv h (slot s) (slot t) (sym same_is ∙ e))
 
@@ -107,13 +107,13 @@ module _ (l : Lent) (c : ℕ) (sc : List ℕ) (top : ℕ) where
           parts_are : p ≡ parted (cell_at h s) (cell_at h t)
           parts_are = is ∙ parts_loaded l pre.0.lists_sound s t pre.1
 
-          pub parts_differ : p ≡ Unlike → NextTold h c (goal ∷ []) sc top sc' next.Differs
+          pub parts_differ : p ≡ Unlike → NextTold h c (goal ∷ []) sc top sc' None
           unfolding NextTold
           parts_differ e =
               step_fails h c sc top goal
               (step_is ∙ unlike_fails h s t (cell_at h s) (cell_at h t) (whole s) (whole t) (sym e ∙ parts_are))
 
-          pub parts_alike : (p ≡ Unlike → ⊥) → (sc'' : List ℕ) (n : ℕ) → PairPushed c sc' top s t sc'' n → NextTold h c (goal ∷ []) sc top sc'' (next.Height n)
+          pub parts_alike : (p ≡ Unlike → ⊥) → (sc'' : List ℕ) (n : ℕ) → PairPushed c sc' top s t sc'' n → NextTold h c (goal ∷ []) sc top sc'' (Some n)
           unfolding NextTold part_rules
           parts_alike ne sc'' n done =
               let need =
@@ -128,12 +128,12 @@ module _ (l : Lent) (c : ℕ) (sc : List ℕ) (top : ℕ) where
   -- ---- two values
 
   module _ (v w : Value) (pre : Ready l c sc top × Comparable l v w) where
-    module _ (x : Next) (told : x ≡ by_eqv (eqv h v w) top) where
+    module _ (x : code.Option ℕ) (told : x ≡ by_eqv (eqv h v w) top) where
       -- `eqv`, or else they differ
       by_test : (eqv h v w ≡ false → unlike_step h v w ≡ fails) → NextTold h c (alike v w ∷ []) sc top sc x
       unfolding NextTold by_eqv
       by_test differ =
-          subst (λ (y : Next). NextTold h c (alike v w ∷ []) sc top sc y) (sym told) (at (eqv h v w) refl)
+          subst (λ (y : code.Option ℕ). NextTold h c (alike v w ∷ []) sc top sc y) (sym told) (at (eqv h v w) refl)
         where
           at : (b : Bool) → eqv h v w ≡ b → NextTold h c (alike v w ∷ []) sc top sc (by_eqv b top)
           at true e = needless h c sc top pre.0.shape (alike v w) (step_eqv h v w e)
@@ -147,7 +147,7 @@ module _ (l : Lent) (c : ℕ) (sc : List ℕ) (top : ℕ) where
       pub slot_ask : Comparable l (slot s) w
       slot_ask = subst (λ (x : Value). Comparable l x w) vs pre.1
 
-      pub second_scalar : (x : Next) → x ≡ by_eqv (eqv h (slot s) w) top → ScalarGiven w → NextTold h c (alike v w ∷ []) sc top sc x
+      pub second_scalar : (x : code.Option ℕ) → x ≡ by_eqv (eqv h (slot s) w) top → ScalarGiven w → NextTold h c (alike v w ∷ []) sc top sc x
       unfolding equal_rules
       second_scalar x told y =
           by_test x (told ∙ sym (ap (λ (z : Value). by_eqv (eqv h z w) top) vs)) (λ e i. unlike_step h (vs i) (y.is i))
@@ -163,6 +163,6 @@ module _ (l : Lent) (c : ℕ) (sc : List ℕ) (top : ℕ) where
         },
       )
 
-      pub slots_told : (sc' : List ℕ) (x : Next) → NextTold h c (alike (slot s) (slot t) ∷ []) sc top sc' x → NextTold h c (alike v w ∷ []) sc top sc' x
+      pub slots_told : (sc' : List ℕ) (x : code.Option ℕ) → NextTold h c (alike (slot s) (slot t) ∷ []) sc top sc' x → NextTold h c (alike v w ∷ []) sc top sc' x
       slots_told sc' x =
           subst (λ (g : Goal). NextTold h c (g ∷ []) sc top sc' x) (sym (λ i. alike (vs i) (ws i)))

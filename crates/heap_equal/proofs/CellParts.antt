@@ -20,13 +20,10 @@ use Rattle.leaf_cells.specs.declared.VCell.{VCell}
 use Rattle.leaf_cells.specs.declared.VCell.TheVariants as cell
 use Rattle.heap_equal.specs.declared.Parts.{Parts}
 use Rattle.heap_equal.specs.declared.Parts.TheVariants.{Pairs, Vectors, Unlike}
-use Rattle.heap_equal.specs.declared.Next.{Next}
-use Rattle.heap_equal.specs.declared.Next.TheVariants as next
 use Rattle.heap_equal.specs.declared.Walked.{Walked}
 use Rattle.heap_equal.specs.declared.Walked.TheVariants as walked
 use Rattle.heap_equal.specs.contracts.Parts.{the_type}
 use Rattle.heap_equal.specs.contracts.Walked.{the_type as walked_type}
-use Rattle.heap_equal.specs.contracts.Next.{the_type as next_type}
 use Rattle.heap_equal.specs.Parts.{blocks_parted, parted, needed, wanted, part_rules}
 
 differ : {A : Type 0} → ◌≡◌ {A = ℕ} 0 1 → A
@@ -45,10 +42,6 @@ pub last_variant : (p : Parts) → tag_of the_type p ≡ 2 → p ≡ Unlike
 last_variant (Pairs a d b e) is = absurd (omega (arith, is))
 last_variant (Vectors p q n) is = absurd (omega (arith, is))
 last_variant Unlike is = refl
-
-pub second_next : (x : Next) → tag_of next_type x ≡ 1 → x ≡ next.Differs
-second_next (next.Height n) is = absurd (omega (arith, is))
-second_next next.Differs is = refl
 
 pub second_walked : (x : Walked) → tag_of walked_type x ≡ 1 → x ≡ walked.Ends
 second_walked (walked.On n d e) is = absurd (omega (arith, is))

@@ -14,10 +14,10 @@ use Rattle.rules.specs.Equal.{Goal, alike, walks}
 use Rattle.leaf_classes.specs.Classes.{weight}
 use Rattle.leaf_classes.proofs.Roots.{weight_most}
 use Rattle.leaf_cells.specs.Cells.{loaded}
+use Rattle.std.specs.Prelude.{Some, None}
+use Rattle.std.specs.Prelude as code
 use Rattle.heap_equal.specs.declared.Parts.{Parts}
 use Rattle.heap_equal.specs.declared.Parts.TheVariants.{Pairs, Vectors, Unlike}
-use Rattle.heap_equal.specs.declared.Next.{Next}
-use Rattle.heap_equal.specs.declared.Next.TheVariants as next
 use Rattle.heap_equal.specs.declared.Walked.{Walked}
 use Rattle.heap_equal.specs.declared.Walked.TheVariants as walked
 use Rattle.heap_equal.specs.Parts.{parted, wanted, facing, first_of, second_of}
@@ -162,11 +162,11 @@ module _ (l : Lent) (c : ℕ) (sc₀ : List ℕ) (top₀ : ℕ) (pre : Ready l c
             two_blocks l pre.lists_sound s t x y m cells_are.0 cells_are.1,
           )
 
-          module _ (sc' : List ℕ) (r : Next) (told : NextTold h c (facing l.elems x y m) sc n sc' r) where
-            module _ (k : ℕ) (e : r ≡ next.Height k) where
+          module _ (sc' : List ℕ) (r : code.Option ℕ) (told : NextTold h c (facing l.elems x y m) sc n sc' r) where
+            module _ (k : ℕ) (e : r ≡ Some k) where
               pushed : Moved h c (facing l.elems x y m) sc n [] sc' k
               unfolding NextTold
-              pushed = subst (λ (z : Next). NextTold h c (facing l.elems x y m) sc n sc' z) e told
+              pushed = subst (λ (z : code.Option ℕ). NextTold h c (facing l.elems x y m) sc n sc' z) e told
 
               pub vectors_after : length sc' ≡ length sc → Comparing h c sc₀ top₀ sc' yes_yet k
               vectors_after same = after sc' k (facing l.elems x y m) faces same pushed
@@ -174,11 +174,11 @@ module _ (l : Lent) (c : ℕ) (sc₀ : List ℕ) (top₀ : ℕ) (pre : Ready l c
               pub vectors_less : k + left c sc' < top + left c sc
               vectors_less = less sc' k (facing l.elems x y m) pushed
 
-            pub vectors_stop : r ≡ next.Differs → Decides h c sc₀ top₀ false
+            pub vectors_stop : r ≡ None → Decides h c sc₀ top₀ false
             unfolding NextTold
             vectors_stop e =
                 stops (facing l.elems x y m) faces
-                (subst (λ (z : Next). NextTold h c (facing l.elems x y m) sc n sc' z) e told)
+                (subst (λ (z : code.Option ℕ). NextTold h c (facing l.elems x y m) sc n sc' z) e told)
 
         -- ---- pairs
 

@@ -15,8 +15,8 @@ use Rattle.rules.specs.Calls.{cleared}
 use Rattle.rules.proofs.SoundLaws.{clauses, bounds}
 use Rattle.heap_sound_rows.proofs.HeapFacts.{cells_length}
 use Rattle.heap_eqv.specs.Eqv.{Comparable}
-use Rattle.heap_equal.specs.declared.Next.{Next}
-use Rattle.heap_equal.specs.declared.Next.TheVariants as next
+use Rattle.std.specs.Prelude.{Some, None}
+use Rattle.std.specs.Prelude as code
 use Rattle.heap_equal.specs.Boards.{Ready, Moved, Refuted, NextTold, Decides, Room, Clear, Answered}
 use Rattle.heap_equal.proofs.Moves.{clear_shape, clear_board, fails_equal}
 
@@ -40,11 +40,11 @@ module _ (l : Lent) (sc : List ℕ) (v w : Value) (pre : Comparable l v w × (Ro
   first_asks =
       (record { lists_sound = pre.0.lists_sound; shape = clear_shape h c sc pre.1.1 long slots_are }, pre.0)
 
-  module _ (sc' : List ℕ) (r : Next) (told : NextTold h c (alike v w ∷ []) sc 0 sc' r) where
-    module _ (k : ℕ) (e : r ≡ next.Height k) where
+  module _ (sc' : List ℕ) (r : code.Option ℕ) (told : NextTold h c (alike v w ∷ []) sc 0 sc' r) where
+    module _ (k : ℕ) (e : r ≡ Some k) where
       moved : Moved h c (alike v w ∷ []) sc 0 [] sc' k
       unfolding NextTold
-      moved = subst (λ (z : Next). NextTold h c (alike v w ∷ []) sc 0 sc' z) e told
+      moved = subst (λ (z : code.Option ℕ). NextTold h c (alike v w ∷ []) sc 0 sc' z) e told
 
       pub compare_asks : Ready l c sc' k
       compare_asks = record { lists_sound = pre.0.lists_sound; shape = moved.shape }
@@ -52,10 +52,10 @@ module _ (l : Lent) (sc : List ℕ) (v w : Value) (pre : Comparable l v w × (Ro
       pub compared : (answer : Bool) → Decides h c sc' k answer → Equal h v w answer
       compared answer d = d.decided v w (moved.runs (alike v w) [] (clear_board h c sc pre.1.1 long (alike v w)))
 
-    pub differs : r ≡ next.Differs → Equal h v w false
+    pub differs : r ≡ None → Equal h v w false
     unfolding NextTold
     differs e =
-        let f : Refuted h c (alike v w ∷ []) sc 0 = subst (λ (z : Next). NextTold h c (alike v w ∷ []) sc 0 sc' z) e told in
+        let f : Refuted h c (alike v w ∷ []) sc 0 = subst (λ (z : code.Option ℕ). NextTold h c (alike v w ∷ []) sc 0 sc' z) e told in
         fails_equal h v w (f.refuted (alike v w) [] (clear_board h c sc pre.1.1 long (alike v w)))
 
 module _ (l : Lent) (sc : List ℕ) (v w : Value) (pre : Comparable l v w × Room l sc) (sc' : List ℕ) (zeroed : sc' ≡ zeros (length sc)) where

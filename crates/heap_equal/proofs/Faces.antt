@@ -11,8 +11,8 @@ use Rattle.rules.specs.Equal.{Goal, alike}
 use Rattle.rules.specs.Calls.{value_in_use}
 use Rattle.leaf_cells.specs.Elements.{loaded_element}
 use Rattle.heap_eqv.specs.Eqv.{Comparable}
-use Rattle.heap_equal.specs.declared.Next.{Next}
-use Rattle.heap_equal.specs.declared.Next.TheVariants as next
+use Rattle.std.specs.Prelude.{Some, None}
+use Rattle.std.specs.Prelude as code
 use Rattle.heap_equal.specs.Parts.{facing}
 use Rattle.heap_equal.specs.Boards.{Shape, Ready, Moved, Elements, NextTold}
 use Rattle.heap_equal.proofs.Moves.{stay, moved_then, moved_before, refuted_then, refuted_before}
@@ -41,7 +41,7 @@ module _ (l : Lent) (c p q n : ℕ) (sc₀ : List ℕ) (top : ℕ) (pre : Ready 
   abbrev h : Heap
   h = heap_of l
 
-  pub along_ends : n ≤ j → NextTold h c (facing l.elems p q n) sc₀ top sc (next.Height height)
+  pub along_ends : n ≤ j → NextTold h c (facing l.elems p q n) sc₀ top sc (Some height)
   unfolding NextTold facing
   along_ends le =
       let z : n - j ≡ 0 = omega (arith, a.low) in
@@ -73,8 +73,8 @@ module _ (l : Lent) (c p q n : ℕ) (sc₀ : List ℕ) (top : ℕ) (pre : Ready 
     so_far : Moved h c (facing l.elems p q n) sc₀ top (alike v w ∷ later) sc height
     so_far = subst (λ (g : List Goal). Moved h c (facing l.elems p q n) sc₀ top g sc height) split a.moved
 
-    module _ (sc' : List ℕ) (r : Next) (told : NextTold h c (alike v w ∷ []) sc height sc' r) where
-      pub along_on : (k : ℕ) → r ≡ next.Height k → length sc' ≡ length sc → Along h c l.elems p q n sc₀ top sc' k (j + 1)
+    module _ (sc' : List ℕ) (r : code.Option ℕ) (told : NextTold h c (alike v w ∷ []) sc height sc' r) where
+      pub along_on : (k : ℕ) → r ≡ Some k → length sc' ≡ length sc → Along h c l.elems p q n sc₀ top sc' k (j + 1)
       unfolding NextTold
       along_on k e same =
           record {
@@ -82,11 +82,11 @@ module _ (l : Lent) (c p q n : ℕ) (sc₀ : List ℕ) (top : ℕ) (pre : Ready 
             low = omega arith;
             moved =
                 moved_then h c (facing l.elems p q n) (alike v w ∷ later) later sc₀ sc sc' top height k so_far
-                (moved_before h c (alike v w ∷ []) [] later sc sc' height k (subst (λ (x : Next). NextTold h c (alike v w ∷ []) sc height sc' x) e told));
+                (moved_before h c (alike v w ∷ []) [] later sc sc' height k (subst (λ (x : code.Option ℕ). NextTold h c (alike v w ∷ []) sc height sc' x) e told));
           }
 
-      pub along_stops : r ≡ next.Differs → NextTold h c (facing l.elems p q n) sc₀ top sc' next.Differs
+      pub along_stops : r ≡ None → NextTold h c (facing l.elems p q n) sc₀ top sc' None
       unfolding NextTold
       along_stops e =
           refuted_then h c (facing l.elems p q n) (alike v w ∷ later) sc₀ sc top height so_far
-          (refuted_before h c (alike v w ∷ []) later sc height (subst (λ (x : Next). NextTold h c (alike v w ∷ []) sc height sc' x) e told))
+          (refuted_before h c (alike v w ∷ []) later sc height (subst (λ (x : code.Option ℕ). NextTold h c (alike v w ∷ []) sc height sc' x) e told))

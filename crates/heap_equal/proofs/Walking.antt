@@ -13,10 +13,10 @@ use Rattle.rules.specs.Equal.{Goal, alike, walks, needs, eqv_cells, holds_if, wa
 use Rattle.equal_laws.proofs.Steps.{step_walks}
 use Rattle.leaf_cells.specs.Cells.{loaded}
 use Rattle.heap_eqv.specs.Eqv.{holding, Within, Comparable}
+use Rattle.std.specs.Prelude.{Some, None}
+use Rattle.std.specs.Prelude as code
 use Rattle.heap_equal.specs.declared.Parts.{Parts}
 use Rattle.heap_equal.specs.declared.Parts.TheVariants.{Pairs}
-use Rattle.heap_equal.specs.declared.Next.{Next}
-use Rattle.heap_equal.specs.declared.Next.TheVariants as next
 use Rattle.heap_equal.specs.declared.Walked.TheVariants as walked
 use Rattle.heap_equal.specs.Parts.{parted}
 use Rattle.heap_equal.specs.Boards.{CanJoin, WalksJoined, Ready, Moved, UsedSlots, NextTold, WalkTold}
@@ -104,11 +104,11 @@ module _ (l : Lent) (c : ℕ) (sc : List ℕ) (top s t : ℕ) (pre : Ready l c s
         cars_ask =
             (record { lists_sound = pre.0.lists_sound; shape = (taken gs needs_are).shape }, slots_comparable l pre.0.lists_sound a b cars)
 
-        module _ (sc'' : List ℕ) (x : Next) (cars_told : NextTold h c (alike (slot a) (slot b) ∷ []) sc' top sc'' x) where
-          pub walk_on : (k : ℕ) → x ≡ next.Height k → WalkTold h c s t sc top sc'' (walked.On k d e)
+        module _ (sc'' : List ℕ) (x : code.Option ℕ) (cars_told : NextTold h c (alike (slot a) (slot b) ∷ []) sc' top sc'' x) where
+          pub walk_on : (k : ℕ) → x ≡ Some k → WalkTold h c s t sc top sc'' (walked.On k d e)
           unfolding WalkTold NextTold
           walk_on k q =
-              let m : Moved h c (alike (slot a) (slot b) ∷ []) sc' top [] sc'' k = subst (λ (z : Next). NextTold h c (alike (slot a) (slot b) ∷ []) sc' top sc'' z) q cars_told in
+              let m : Moved h c (alike (slot a) (slot b) ∷ []) sc' top [] sc'' k = subst (λ (z : code.Option ℕ). NextTold h c (alike (slot a) (slot b) ∷ []) sc' top sc'' z) q cars_told in
               record {
                 moved =
                     moved_then h c (walks s t ∷ []) gs (walks d e ∷ []) sc sc' sc'' top top k (taken gs needs_are)
@@ -122,9 +122,9 @@ module _ (l : Lent) (c : ℕ) (sc : List ℕ) (top s t : ℕ) (pre : Ready l c s
                     );
               }
 
-          pub walk_stops : x ≡ next.Differs → WalkTold h c s t sc top sc'' walked.Differs
+          pub walk_stops : x ≡ None → WalkTold h c s t sc top sc'' walked.Differs
           unfolding WalkTold NextTold
           walk_stops q =
               refuted_then h c (walks s t ∷ []) gs sc sc' top top (taken gs needs_are)
               (refuted_before h c (alike (slot a) (slot b) ∷ []) (walks d e ∷ []) sc' top
-              (subst (λ (z : Next). NextTold h c (alike (slot a) (slot b) ∷ []) sc' top sc'' z) q cars_told))
+              (subst (λ (z : code.Option ℕ). NextTold h c (alike (slot a) (slot b) ∷ []) sc' top sc'' z) q cars_told))

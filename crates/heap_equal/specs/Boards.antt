@@ -13,8 +13,8 @@ use Rattle.rules.specs.Calls.{value_in_use, cleared}
 use Rattle.equal_laws.specs.Runs.{Run}
 use Rattle.leaf_classes.specs.Classes.{Together, Rises, weight, joined}
 use Rattle.leaf_cells.specs.Elements.{loaded_element}
-use Rattle.heap_equal.specs.declared.Next.{Next}
-use Rattle.heap_equal.specs.declared.Next.TheVariants as next
+use Rattle.std.specs.Prelude.{Some, None}
+use Rattle.std.specs.Prelude as code
 use Rattle.heap_equal.specs.declared.Walked.{Walked}
 use Rattle.heap_equal.specs.declared.Walked.TheVariants as walked
 use Rattle.heap_equal.specs.Parts.{first_of, second_of, pending}
@@ -88,13 +88,13 @@ pub record Ready (l : Lent) (c : ℕ) (scratch : List ℕ) (top : ℕ) : Type 0 
   pub shape : Shape (heap_of l) c scratch top
 
 -- two values, one of which is a scalar
-unfoldable pub by_eqv : Bool → ℕ → Next
-by_eqv true top = next.Height top
-by_eqv false top = next.Differs
+unfoldable pub by_eqv : Bool → ℕ → code.Option ℕ
+by_eqv true top = Some top
+by_eqv false top = None
 
-unfoldable pub NextTold : Heap → ℕ → List Goal → List ℕ → ℕ → List ℕ → Next → Type 0
-NextTold h c goals scratch top scratch' (next.Height n) = Moved h c goals scratch top [] scratch' n
-NextTold h c goals scratch top scratch' next.Differs = Refuted h c goals scratch top
+unfoldable pub NextTold : Heap → ℕ → List Goal → List ℕ → ℕ → List ℕ → code.Option ℕ → Type 0
+NextTold h c goals scratch top scratch' (Some n) = Moved h c goals scratch top [] scratch' n
+NextTold h c goals scratch top scratch' None = Refuted h c goals scratch top
 
 -- two vectors' elements: they lie in the arena, and their slots are in use
 pub record Elements (l : Lent) (p q n : ℕ) : Type 0 where

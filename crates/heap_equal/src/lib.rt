@@ -13,15 +13,17 @@ ghost use Rattle.rules.specs.Layout.{heap_of};
 ghost use Rattle.rules.specs.Equal.{eqv, alike, Equal};
 ghost use Rattle.leaf_cells.specs.Cells.{loaded};
 ghost use Rattle.leaf_cells.specs.Elements.{value_of};
-ghost use Rattle.heap_sound_rows.specs.Rows.{lists};
+ghost use Rattle.leaf_lists.specs.Lists.{lent_of};
 ghost use Rattle.heap_eqv.specs.Eqv.{Comparable};
 ghost use Rattle.heap_equal.specs.Parts.{parted, facing};
 ghost use Rattle.heap_equal.specs.Boards.{CanJoinAlike, AlikeJoined, CanJoin, WalksJoined, PairPushed, Ready, by_eqv, NextTold, Elements, UsedSlots, WalkTold, Decides, Room, Clear, Answered};
 
 use leaf_cells::{VCell, Value};
+use leaf_lists::Lists;
 
 // The parts by which two cells are compared: car, cdr, car and cdr of two pairs; the elements' places and number of two vectors
 // of one length; or none.
+// Kept: `Unlike` as a third case: each match tells all three at once, where an Option of two would be told in two steps.
 #[derive(Clone, Copy)]
 enum Parts {
     Pairs(usize, usize, usize, usize),
@@ -29,13 +31,7 @@ enum Parts {
     Unlike,
 }
 
-// The height of the stack of pairs to compare, or that two values differ.
-#[derive(Clone, Copy)]
-enum Next {
-    Height(usize),
-    Differs,
-}
-
+// Kept: three outcomes, of which two are no failure; an Option of an enum would say them in two steps.
 // The pair walk goes on from two slots, with the stack's height; or it has come to its end; or it has failed.
 #[derive(Clone, Copy)]
 enum Walked {
@@ -97,169 +93,128 @@ fn push_pair(scratch: &mut [u64], c: usize, top: usize, s: usize, t: usize) -> u
     top + 1
 }
 
+// Each push answers the height of the stack of pairs to compare, or none where two values differ.
+
 // Two slots that should be `equal`: nothing is to do where they are of one class, which they are from now on; they are if they
 // are `eqv`; otherwise their parts have to be.
 fn push_slots(
-    words: &[u64],
-    map: &[u8],
-    bytes: &[u8],
-    elems: &[u64],
+    heap: Lists<'_>,
     scratch: &mut [u64],
     c: usize,
     top: usize,
     s: usize,
     t: usize,
-) -> Next
-    requires ready { Ready (lists words.now map.now bytes.now elems.now) c scratch.old top }
-    requires used_slots { UsedSlots (heap_of (lists words.now map.now bytes.now elems.now)) s t }
-    ensures { NextTold (heap_of (lists words.now map.now bytes.now elems.now)) c (alike (slot s) (slot t) ∷ []) scratch.old top scratch.new result }
+) -> Option<usize>
+    requires ready { Ready (lent_of heap) c scratch.old top }
+    requires used_slots { UsedSlots (heap_of (lent_of heap)) s t }
+    ensures { NextTold (heap_of (lent_of heap.entry)) c (alike (slot s) (slot t) ∷ []) scratch.old top scratch.new result }
 {
     if !join_alike(scratch, c, s, t) {
-        return Next::Height(top);
+        return Some(top);
     }
-    if heap_eqv::eqv(words, map, bytes, elems, Value::Slot(s), Value::Slot(t)) {
-        return Next::Height(top);
+    if heap_eqv::eqv(heap, Value::Slot(s), Value::Slot(t)) {
+        return Some(top);
     }
-    let parts = parts_of(words, s, t);
+    let parts = parts_of(heap.words, s, t);
     match parts {
-        Parts::Unlike => Next::Differs,
-        _ => Next::Height(push_pair(scratch, c, top, s, t)),
+        Parts::Unlike => None,
+        _ => Some(push_pair(scratch, c, top, s, t)),
     }
 }
 
 // Two values, one of which is a scalar: they are `eqv`, or they differ.
-fn push_scalar(
-    words: &[u64],
-    map: &[u8],
-    bytes: &[u8],
-    elems: &[u64],
-    top: usize,
-    v: Value,
-    w: Value,
-) -> Next
-    requires { Comparable (lists words.now map.now bytes.now elems.now) (value_of v) (value_of w) }
-    ensures { result ≡ by_eqv (eqv (heap_of (lists words.now map.now bytes.now elems.now)) (value_of v) (value_of w)) top }
+fn push_scalar(heap: Lists<'_>, top: usize, v: Value, w: Value) -> Option<usize>
+    requires { Comparable (lent_of heap) (value_of v) (value_of w) }
+    ensures { result ≡ by_eqv (eqv (heap_of (lent_of heap.entry)) (value_of v) (value_of w)) top }
 {
-    if heap_eqv::eqv(words, map, bytes, elems, v, w) {
-        return Next::Height(top);
+    if heap_eqv::eqv(heap, v, w) {
+        return Some(top);
     }
-    Next::Differs
+    None
 }
 
 // Two values that should be `equal`.
 fn push_alike(
-    words: &[u64],
-    map: &[u8],
-    bytes: &[u8],
-    elems: &[u64],
+    heap: Lists<'_>,
     scratch: &mut [u64],
     c: usize,
     top: usize,
     v: Value,
     w: Value,
-) -> Next
-    requires ready { Ready (lists words.now map.now bytes.now elems.now) c scratch.old top }
-    requires comparable { Comparable (lists words.now map.now bytes.now elems.now) (value_of v) (value_of w) }
-    ensures { NextTold (heap_of (lists words.now map.now bytes.now elems.now)) c (alike (value_of v) (value_of w) ∷ []) scratch.old top scratch.new result }
+) -> Option<usize>
+    requires ready { Ready (lent_of heap) c scratch.old top }
+    requires comparable { Comparable (lent_of heap) (value_of v) (value_of w) }
+    ensures { NextTold (heap_of (lent_of heap.entry)) c (alike (value_of v) (value_of w) ∷ []) scratch.old top scratch.new result }
 {
     let Value::Slot(s) = v else {
-        return push_scalar(words, map, bytes, elems, top, v, w);
+        return push_scalar(heap, top, v, w);
     };
     let Value::Slot(t) = w else {
-        return push_scalar(words, map, bytes, elems, top, v, w);
+        return push_scalar(heap, top, v, w);
     };
-    push_slots(words, map, bytes, elems, scratch, c, top, s, t)
+    push_slots(heap, scratch, c, top, s, t)
 }
 
 // "two vectors of one length, element by element"
 fn push_elements(
-    words: &[u64],
-    map: &[u8],
-    bytes: &[u8],
-    elems: &[u64],
+    heap: Lists<'_>,
     scratch: &mut [u64],
     c: usize,
     top: usize,
     p: usize,
     q: usize,
     n: usize,
-) -> Next
-    requires ready { Ready (lists words.now map.now bytes.now elems.now) c scratch.old top }
-    requires elements { Elements (lists words.now map.now bytes.now elems.now) p q n }
-    ensures { NextTold (heap_of (lists words.now map.now bytes.now elems.now)) c (facing elems.now p q n) scratch.old top scratch.new result }
+) -> Option<usize>
+    requires ready { Ready (lent_of heap) c scratch.old top }
+    requires elements { Elements (lent_of heap) p q n }
+    ensures { NextTold (heap_of (lent_of heap.entry)) c (facing heap.entry.elems.now p q n) scratch.old top scratch.new result }
 {
     let mut height = top;
-    let mut j = 0;
-    while j < n {
-        let v = leaf_cells::load_element(elems, p + j);
-        let w = leaf_cells::load_element(elems, q + j);
-        let next = push_alike(words, map, bytes, elems, scratch, c, height, v, w);
-        let Next::Height(k) = next else {
-            return Next::Differs;
-        };
-        height = k;
-        j += 1;
+    for j in 0..n {
+        let v = leaf_cells::load_element(heap.elems, p + j);
+        let w = leaf_cells::load_element(heap.elems, q + j);
+        height = push_alike(heap, scratch, c, height, v, w)?;
     }
-    Next::Height(height)
+    Some(height)
 }
 
 // One step of the pair walk. Here too the two slots become one class before their cells are compared.
 fn walk_step(
-    words: &[u64],
-    map: &[u8],
-    bytes: &[u8],
-    elems: &[u64],
+    heap: Lists<'_>,
     scratch: &mut [u64],
     c: usize,
     top: usize,
     s: usize,
     t: usize,
 ) -> Walked
-    requires ready { Ready (lists words.now map.now bytes.now elems.now) c scratch.old top }
-    requires used_slots { UsedSlots (heap_of (lists words.now map.now bytes.now elems.now)) s t }
-    ensures { WalkTold (heap_of (lists words.now map.now bytes.now elems.now)) c s t scratch.old top scratch.new result }
+    requires ready { Ready (lent_of heap) c scratch.old top }
+    requires used_slots { UsedSlots (heap_of (lent_of heap)) s t }
+    ensures { WalkTold (heap_of (lent_of heap.entry)) c s t scratch.old top scratch.new result }
 {
     if !join_walks(scratch, c, s, t) {
         return Walked::Ends;
     }
-    let parts = parts_of(words, s, t);
+    let parts = parts_of(heap.words, s, t);
     let Parts::Pairs(a, d, b, e) = parts else {
-        let x = leaf_cells::load(words, s);
-        let y = leaf_cells::load(words, t);
-        if heap_eqv::eqv_cells(bytes, x, y) {
+        let x = leaf_cells::load(heap.words, s);
+        let y = leaf_cells::load(heap.words, t);
+        if heap_eqv::eqv_cells(heap.bytes, x, y) {
             return Walked::Ends;
         }
         return Walked::Differs;
     };
-    let next = push_alike(
-        words,
-        map,
-        bytes,
-        elems,
-        scratch,
-        c,
-        top,
-        Value::Slot(a),
-        Value::Slot(b),
-    );
+    let next = push_alike(heap, scratch, c, top, Value::Slot(a), Value::Slot(b));
     match next {
-        Next::Height(n) => Walked::On(n, d, e),
-        Next::Differs => Walked::Differs,
+        Some(n) => Walked::On(n, d, e),
+        None => Walked::Differs,
     }
 }
 
 // The pairs on the stack, until none is left or a step fails.
-fn compare(
-    words: &[u64],
-    map: &[u8],
-    bytes: &[u8],
-    elems: &[u64],
-    scratch: &mut [u64],
-    c: usize,
-    height: usize,
-) -> bool
-    requires { Ready (lists words.now map.now bytes.now elems.now) c scratch.old height }
-    ensures { Decides (heap_of (lists words.now map.now bytes.now elems.now)) c scratch.old height result }
+// Kept: loops left by a label, the form that the paper names for the pair walk (docs/DECISIONS.md, "Forms").
+fn compare(heap: Lists<'_>, scratch: &mut [u64], c: usize, height: usize) -> bool
+    requires { Ready (lent_of heap) c scratch.old height }
+    ensures { Decides (heap_of (lent_of heap.entry)) c scratch.old height result }
 {
     let mut yes = true;
     let mut top = height;
@@ -268,10 +223,10 @@ fn compare(
         let at = 2 * c + 2 * top;
         let mut s = scratch[at] as usize;
         let mut t = scratch[at + 1] as usize;
-        let parts = parts_of(words, s, t);
+        let parts = parts_of(heap.words, s, t);
         match parts {
             Parts::Pairs(_, _, _, _) => loop {
-                let step = walk_step(words, map, bytes, elems, scratch, c, top, s, t);
+                let step = walk_step(heap, scratch, c, top, s, t);
                 match step {
                     Walked::On(n, d, e) => {
                         top = n;
@@ -286,10 +241,10 @@ fn compare(
                 }
             },
             Parts::Vectors(p, q, n) => {
-                let next = push_elements(words, map, bytes, elems, scratch, c, top, p, q, n);
+                let next = push_elements(heap, scratch, c, top, p, q, n);
                 match next {
-                    Next::Height(k) => top = k,
-                    Next::Differs => {
+                    Some(k) => top = k,
+                    None => {
                         yes = false;
                         break 'pending;
                     }
@@ -302,44 +257,28 @@ fn compare(
 }
 
 // In scratch that is all zero.
-fn decide(
-    words: &[u64],
-    map: &[u8],
-    bytes: &[u8],
-    elems: &[u64],
-    scratch: &mut [u64],
-    v: Value,
-    w: Value,
-) -> bool
-    requires comparable { Comparable (lists words.now map.now bytes.now elems.now) (value_of v) (value_of w) }
-    requires room { Room (lists words.now map.now bytes.now elems.now) scratch.old }
+fn decide(heap: Lists<'_>, scratch: &mut [u64], v: Value, w: Value) -> bool
+    requires comparable { Comparable (lent_of heap) (value_of v) (value_of w) }
+    requires room { Room (lent_of heap) scratch.old }
     requires clear { Clear scratch.old }
-    ensures { Equal (heap_of (lists words.now map.now bytes.now elems.now)) (value_of v) (value_of w) result }
+    ensures { Equal (heap_of (lent_of heap.entry)) (value_of v) (value_of w) result }
 {
-    let c = words[1] as usize;
-    let next = push_alike(words, map, bytes, elems, scratch, c, 0, v, w);
+    let c = heap.words[1] as usize;
+    let next = push_alike(heap, scratch, c, 0, v, w);
     match next {
-        Next::Height(top) => compare(words, map, bytes, elems, scratch, c, top),
-        Next::Differs => false,
+        Some(top) => compare(heap, scratch, c, top),
+        None => false,
     }
 }
 
 // Two values of a sound heap, whose slots are in use.
-pub fn equal(
-    words: &[u64],
-    map: &[u8],
-    bytes: &[u8],
-    elems: &[u64],
-    scratch: &mut [u64],
-    v: Value,
-    w: Value,
-) -> bool
-    requires comparable { Comparable (lists words.now map.now bytes.now elems.now) (value_of v) (value_of w) }
-    requires room { Room (lists words.now map.now bytes.now elems.now) scratch.old }
-    ensures { Answered (heap_of (lists words.now map.now bytes.now elems.now)) scratch.old (value_of v) (value_of w) scratch.new result }
+pub fn equal(heap: Lists<'_>, scratch: &mut [u64], v: Value, w: Value) -> bool
+    requires comparable { Comparable (lent_of heap) (value_of v) (value_of w) }
+    requires room { Room (lent_of heap) scratch.old }
+    ensures { Answered (heap_of (lent_of heap.entry)) scratch.old (value_of v) (value_of w) scratch.new result }
 {
     leaf_clear::clear_words(scratch);
-    let answer = decide(words, map, bytes, elems, scratch, v, w);
+    let answer = decide(heap, scratch, v, w);
     leaf_clear::clear_words(scratch);
     answer
 }

@@ -1,4 +1,4 @@
--- The text of one part, `eqv` of two cells by their kinds and words, and the same slot by two values' words. Assumes nothing.
+-- The text of one part, `eqv` of two cells by their kinds and words, and values that are no slots. Assumes nothing.
 use mathlib.Core.Path.{◌≡◌, refl, sym, ap, ◌∙◌}
 use mathlib.Core.Bool.{Bool, true, false}
 use mathlib.Core.List.{List, [], ◌∷◌}
@@ -10,13 +10,14 @@ use lib.Dec.{eqb}
 use lib.ListN.{get_or}
 use Rattle.laws.specs.Basics.{choose, both, same}
 use Rattle.laws.proofs.Tests.{same_refl}
-use Rattle.rules.specs.Cells.{Scalar, undefined, nil, eof, void, bool, char, number, Value, slot, scalar, Block, block, Cell, plain, pair, symbol, string, vector}
+use Rattle.rules.specs.Cells.{undefined, nil, eof, void, bool, char, number, Value, slot, scalar, Block, block, Cell, plain, pair, symbol, string, vector}
 use Rattle.rules.specs.Heap.{part_of}
-use Rattle.rules.specs.Layout.{scalar_words, cell_words, value_words, layout_rules}
+use Rattle.rules.specs.Layout.{cell_words, layout_rules}
 use Rattle.rules.specs.Sound.{text_block}
 use Rattle.rules.specs.Equal.{eqv_cells, same_slot, equal_rules}
 use Rattle.leaf_cells.specs.Words.{three}
 use Rattle.leaf_cells.specs.declared.Words.{Words}
+use Rattle.leaf_cells.proofs.Variants.{Plain}
 use Rattle.heap_eqv.specs.Eqv.{holding, Within}
 
 -- what holds of a cell of each kind holds of every cell
@@ -158,32 +159,14 @@ module _ (room : ℕ) (x : Words) (seven : x.kind ≡ 7) where
 
 -- ---- the same slot
 
--- a scalar's kind is no slot's
-scalar_kind : (s : Scalar) → get_or (scalar_words s) 0 0 ≤ 6
-unfolding scalar_words
-scalar_kind undefined = omega arith
-scalar_kind nil = omega arith
-scalar_kind eof = omega arith
-scalar_kind void = omega arith
-scalar_kind (bool b) = omega arith
-scalar_kind (char n) = omega arith
-scalar_kind (number n) = omega arith
+-- a value that is no slot is the same slot as no other
+pub first_no_slot : (v w : Value) → Plain v → false ≡ same_slot v w
+unfolding same_slot
+first_no_slot (slot s) w p = absurd (let e = p.is in let z : ◌≡◌ {A = ℕ} 0 1 = cc in omega arith)
+first_no_slot (scalar s) w p = refl
 
-module _ (x y : Words) where
-  pub first_no_slot : (v w : Value) → three x ≡ value_words v → (x.kind ≡ 15 → ⊥) → false ≡ same_slot v w
-  unfolding value_words same_slot
-  first_no_slot (slot s) w e ne = absurd (ne (ap (λ (l : List ℕ). get_or l 0 0) e))
-  first_no_slot (scalar s) w e ne = refl
-
-  pub second_no_slot : (v w : Value) → three y ≡ value_words w → (y.kind ≡ 15 → ⊥) → false ≡ same_slot v w
-  unfolding value_words same_slot
-  second_no_slot (slot s) (slot t) e ne = absurd (ne (ap (λ (l : List ℕ). get_or l 0 0) e))
-  second_no_slot (slot s) (scalar t) e ne = refl
-  second_no_slot (scalar s) w e ne = refl
-
-  pub slots_same : (v w : Value) → three x ≡ value_words v → three y ≡ value_words w → x.kind ≡ 15 → y.kind ≡ 15 → eqb x.first y.first ≡ same_slot v w
-  unfolding value_words same_slot
-  slots_same (slot s) (slot t) e f p q =
-      λ j. eqb (ap (λ (l : List ℕ). get_or l 1 0) e j) (ap (λ (l : List ℕ). get_or l 1 0) f j)
-  slots_same (slot s) (scalar t) e f p q = absurd (omega (arith, scalar_kind t, ap (λ (l : List ℕ). get_or l 0 0) f))
-  slots_same (scalar s) w e f p q = absurd (omega (arith, scalar_kind s, ap (λ (l : List ℕ). get_or l 0 0) e))
+pub second_no_slot : (v w : Value) → Plain w → false ≡ same_slot v w
+unfolding same_slot
+second_no_slot (slot s) (slot t) p = absurd (let e = p.is in let z : ◌≡◌ {A = ℕ} 0 1 = cc in omega arith)
+second_no_slot (slot s) (scalar t) p = refl
+second_no_slot (scalar s) w p = refl

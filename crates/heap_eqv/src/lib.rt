@@ -11,10 +11,11 @@ ghost use Rattle.rules.specs.Layout.{heap_of};
 ghost use Rattle.rules.specs.Equal.{eqv_cells, same_slot, eqv};
 ghost use Rattle.leaf_cells.specs.Cells.{cell_of};
 ghost use Rattle.leaf_cells.specs.Elements.{value_of};
-ghost use Rattle.heap_sound_rows.specs.Rows.{lists};
+ghost use Rattle.leaf_lists.specs.Lists.{lent_of};
 ghost use Rattle.heap_eqv.specs.Eqv.{holding, Within, shown_in, Comparable};
 
 use leaf_cells::{VCell, Value};
+use leaf_lists::Lists;
 
 // "strings by content": two parts of the byte arena. The same part is not looked at.
 fn same_text(bytes: &[u8], p: usize, m: usize, q: usize, n: usize) -> bool
@@ -24,9 +25,7 @@ fn same_text(bytes: &[u8], p: usize, m: usize, q: usize, n: usize) -> bool
     if p == q && m == n {
         return true;
     }
-    let a = leaf_rooms::text(bytes, p, m);
-    let b = leaf_rooms::text(bytes, q, n);
-    leaf_names::same(a, b)
+    leaf_rooms::text(bytes, p, m) == leaf_rooms::text(bytes, q, n)
 }
 
 // Two cells, whose strings lie in the bytes. Undefined, Void, symbols and vectors are `eqv` to no cell; Nil, Eof, Bool, Char and
@@ -51,12 +50,7 @@ pub fn eqv_cells(bytes: &[u8], c: VCell, d: VCell) -> bool
             y.first as usize,
             y.second as usize,
         ),
-        9 => {
-            if x.first != y.first {
-                return false;
-            }
-            x.second == y.second
-        }
+        9 => x.first == y.first && x.second == y.second,
         _ => x.first == y.first,
     }
 }
@@ -65,15 +59,10 @@ pub fn eqv_cells(bytes: &[u8], c: VCell, d: VCell) -> bool
 fn same_slot(v: Value, w: Value) -> bool
     ensures { result ≡ same_slot (value_of v) (value_of w) }
 {
-    let x = leaf_cells::value_words(v);
-    let y = leaf_cells::value_words(w);
-    if x.kind != 15 {
-        return false;
+    match (v, w) {
+        (Value::Slot(s), Value::Slot(t)) => s == t,
+        _ => false,
     }
-    if y.kind != 15 {
-        return false;
-    }
-    x.first == y.first
 }
 
 // What a value shows: a slot's cell, or the scalar itself.
@@ -81,22 +70,16 @@ fn shown(words: &[u64], v: Value) -> VCell
     requires { (s : ℕ) → value_of v ≡ slot s → 8 * s + 16 ≤ length words.now }
     ensures { cell_of result ≡ shown_in words.now (value_of v) }
 {
-    let place = heap_steps::place_of(v);
-    match place {
+    match heap_steps::place_of(v) {
         heap_steps::Place::At(s) => leaf_cells::load(words, s),
         heap_steps::Place::New(c) => c,
     }
 }
 
 // Two values of a sound heap, whose slots are in use.
-pub fn eqv(words: &[u64], map: &[u8], bytes: &[u8], elems: &[u64], v: Value, w: Value) -> bool
-    requires { Comparable (lists words.now map.now bytes.now elems.now) (value_of v) (value_of w) }
-    ensures { result ≡ eqv (heap_of (lists words.now map.now bytes.now elems.now)) (value_of v) (value_of w) }
+pub fn eqv(heap: Lists<'_>, v: Value, w: Value) -> bool
+    requires { Comparable (lent_of heap) (value_of v) (value_of w) }
+    ensures { result ≡ eqv (heap_of (lent_of heap.entry)) (value_of v) (value_of w) }
 {
-    if same_slot(v, w) {
-        return true;
-    }
-    let c = shown(words, v);
-    let d = shown(words, w);
-    eqv_cells(bytes, c, d)
+    same_slot(v, w) || eqv_cells(heap.bytes, shown(heap.words, v), shown(heap.words, w))
 }

@@ -1,7 +1,7 @@
 -- The two tests before a call that takes scratch: 20, then 19, each of which leaves everything as it was; else the call goes on
 -- with the heap that the lists hold. Assumes nothing.
-use mathlib.Core.Path.{◌≡◌}
-use mathlib.Core.Bool.{true, false}
+use mathlib.Core.Path.{◌≡◌, sym, ap, ◌∙◌}
+use mathlib.Core.Bool.{Bool, true, false}
 use mathlib.Core.List.{List}
 use Prim.Native.Nat.{ℕ}
 use lib.Dec.{ltb}
@@ -29,3 +29,10 @@ module _ {A : Type 0} (l : Lent) (scratch : List ℕ) (go : Heap → Left A) whe
   pub checked_on : sound l ≡ true → ltb (length scratch) (scratch_words (get_or l.words 1 0)) ≡ false → go (heap_of l) ≡ checked l scratch go
   unfolding checked refusals
   checked_on e long = rw (e, short_by_header l scratch false long)
+
+-- lists lent to be changed, as they stand, are sound or not as what is looked at is; and scratch is short for them or not
+pub sound_for : (l l' : Lent) (b : Bool) → l ≡ l' → sound l ≡ b → sound l' ≡ b
+sound_for l l' b e s = sym (ap sound e) ∙ s
+
+pub short_for : (l l' : Lent) (n : ℕ) (b b' : Bool) → l ≡ l' → b ≡ ltb n (scratch_words (get_or l.words 1 0)) → b ≡ b' → ltb n (scratch_words (get_or l'.words 1 0)) ≡ b'
+short_for l l' n b b' e s t = sym (ap (λ (x : Lent). ltb n (scratch_words (get_or x.words 1 0))) e) ∙ sym s ∙ t

@@ -22,7 +22,6 @@ use Rattle.rules.proofs.SoundLaws.{clauses}
 use Rattle.leaf_cells.specs.Cells.{cell_of}
 use Rattle.leaf_cells.specs.declared.VCell.{VCell}
 use Rattle.leaf_cells.specs.declared.VCell.TheVariants as vcell
-use Rattle.leaf_cells.specs.declared.Value.{Value}
 use Rattle.leaf_cells.proofs.Variants.{Plain}
 use Rattle.heap_sound_cells.specs.Looked.{used_slot, named}
 use Rattle.heap_sound.proofs.OutlineLaws.{growth_is, ground, in_use_is}

@@ -1,3 +1,4 @@
+pub mod AnswerLaws
 pub mod CheckedLaws
 pub mod FaultLaws
 pub mod GivenLaws

@@ -1,6 +1,6 @@
 -- What is answered of a given scalar, value or cell, in the rules' words; and whether a cell names slots in use. A fault of what
 -- a caller gives is at node 0: there is no other. Assumes nothing.
-use Rattle.std.specs.Prelude.{Bool, true, List, ℕ}
+use Rattle.std.specs.Prelude.{Bool, true, List, ℕ, Result, Ok, Err}
 use Rattle.laws.specs.Basics.{both}
 use Rattle.rules.specs.Refusals.{Answer, accepted, refused, malformed}
 use Rattle.rules.specs.Cells.{Scalar, Cell, plain, pair, symbol, string, vector}
@@ -8,27 +8,28 @@ use Rattle.rules.specs.Cells as cells
 use Rattle.rules.specs.Layout.{scalar_from}
 use Rattle.leaf_cells.specs.Cells.{cell_of}
 use Rattle.leaf_cells.specs.Elements.{value_of}
+use Rattle.leaf_cells.specs.declared.VCell.{VCell}
+use Rattle.leaf_cells.specs.declared.Value.{Value}
 use Rattle.leaf_nodes.specs.Reads.{fault_of}
+use Rattle.leaf_nodes.specs.declared.Fault.{Fault}
 use Rattle.heap_sound_cells.specs.Looked.{used_slot}
-use Rattle.heap_given.specs.declared.ScalarAnswer.{ScalarAnswer}
-use Rattle.heap_given.specs.declared.ScalarAnswer.TheVariants as scalar
-use Rattle.heap_given.specs.declared.ValueAnswer.{ValueAnswer}
-use Rattle.heap_given.specs.declared.ValueAnswer.TheVariants as value
-use Rattle.heap_given.specs.declared.CellAnswer.{CellAnswer}
-use Rattle.heap_given.specs.declared.CellAnswer.TheVariants as cell
+
+-- a fault, as the refusal that it is told by
+abbrev pub refused_for : {A : Type 0} → Fault → Answer A
+refused_for f = refused (malformed (fault_of f) 0)
 
 -- a good one is the layout's scalar of that kind and field
-abbrev pub scalar_answer : ScalarAnswer → ℕ → ℕ → Answer Scalar
-scalar_answer scalar.Good kind a = accepted (scalar_from kind a)
-scalar_answer (scalar.Malformed f) kind a = refused (malformed (fault_of f) 0)
+abbrev pub scalar_answer : Result (Unit {0}) Fault → ℕ → ℕ → Answer Scalar
+scalar_answer (Ok u) kind a = accepted (scalar_from kind a)
+scalar_answer (Err f) kind a = refused_for f
 
-abbrev pub value_answer : ValueAnswer → Answer cells.Value
-value_answer (value.Given v) = accepted (value_of v)
-value_answer (value.Malformed f) = refused (malformed (fault_of f) 0)
+abbrev pub value_answer : Result Value Fault → Answer cells.Value
+value_answer (Ok v) = accepted (value_of v)
+value_answer (Err f) = refused_for f
 
-abbrev pub cell_answer : CellAnswer → Answer Cell
-cell_answer (cell.Given c) = accepted (cell_of c)
-cell_answer (cell.Malformed f) = refused (malformed (fault_of f) 0)
+abbrev pub cell_answer : Result VCell Fault → Answer Cell
+cell_answer (Ok c) = accepted (cell_of c)
+cell_answer (Err f) = refused_for f
 
 -- a cell names slots in use, if any
 unfoldable pub cell_named : ℕ → List ℕ → Cell → Bool

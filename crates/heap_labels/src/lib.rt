@@ -2,35 +2,35 @@
 // put the latest definition of a label counts, also after its inner datum has ended."
 #![tactic(auto)]
 
-ghost use Rattle.std.specs.Prelude.{◌≡◌, ◌+◌, ◌*◌, ◌≤◌, length};
+ghost use Rattle.std.specs.Prelude.{◌≡◌, ◌+◌, ◌*◌, ◌≤◌, ◌<◌, length, unwrap_or, IfSome};
 ghost use Rattle.rules.specs.Put.{slot_of};
 ghost use Rattle.heap_labels.specs.Labels.{labels_in, index_of, Defined};
 
-// Where a label stands among the first `count`; `count` where it does not.
-fn place_of(labels: &[u64], count: usize, label: u64) -> usize
+// Kept: pairs of words with their count beside them, since the scratch is lent words, by the C interface.
+
+// Where a label stands among the first `count`.
+fn place_of(labels: &[u64], count: usize, label: u64) -> Option<usize>
     requires { 2 * count ≤ length labels.now }
-    ensures { result ≡ index_of label (labels_in labels.now count) }
+    ensures place { unwrap_or result count ≡ index_of label (labels_in labels.now count) }
+    ensures within { IfSome result (λ i. i < count) }
 {
-    let mut i = 0;
-    while i < count {
+    for i in 0..count {
         if labels[2 * i] == label {
-            return i;
+            return Some(i);
         }
-        i += 1;
     }
-    i
+    None
 }
 
 // The slot of a label's latest definition; 0 where it has none.
+// Kept: 0 for none, as the rules' `slot_of` has it, which the clause names.
 pub fn slot_of(labels: &[u64], count: usize, label: u64) -> usize
     requires { 2 * count ≤ length labels.now }
     ensures { result ≡ slot_of label (labels_in labels.now count) }
 {
-    let i = place_of(labels, count, label);
-    if i < count {
-        labels[2 * i + 1] as usize
-    } else {
-        0
+    match place_of(labels, count, label) {
+        Some(i) => labels[2 * i + 1] as usize,
+        None => 0,
     }
 }
 
@@ -39,8 +39,9 @@ pub fn define(labels: &mut [u64], count: usize, label: u64, slot: usize) -> usiz
     requires { 2 * count + 2 ≤ length labels.old }
     ensures { Defined labels.old count label slot labels.new result }
 {
-    let i = place_of(labels, count, label);
+    let place = place_of(labels, count, label);
+    let i = place.unwrap_or(count);
     labels[2 * i] = label;
     labels[2 * i + 1] = slot as u64;
-    if i < count { count } else { count + 1 }
+    if place.is_some() { count } else { count + 1 }
 }

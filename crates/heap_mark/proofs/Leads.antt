@@ -1,6 +1,5 @@
 -- What a cell in the lent lists leads to, by its kind, and slots pushed one part after the other. Assumes nothing.
 use mathlib.Core.Path.{◌≡◌, refl, sym, ap, ◌∙◌, subst}
-use mathlib.Core.Bool.{Bool}
 use mathlib.Core.List.{List, [], ◌∷◌, ◌++◌, map}
 use Prim.Native.Nat.{ℕ, suc, ◌+◌, ◌-◌, ◌≤◌, ◌<◌}
 use native.Mathlib.Nat.{zero-add}
@@ -121,10 +120,6 @@ module _ (elems : List ℕ) (place : ℕ) where
       ∙ ap (λ (k : ℕ). slots_among (loaded_element elems (place + i) ∷ values elems k (n - (i + 1)))) next
       ∙ slots_append (loaded_element elems (place + i) ∷ []) (values elems (place + (i + 1)) (n - (i + 1)))
 
-pub no_values : (elems : List ℕ) (place i n : ℕ) → n ≤ i → slots_among (values elems place (n - i)) ≡ []
-unfolding values slots_among basics
-no_values elems place i n l = let z : n - i ≡ 0 = omega arith in ap (λ (k : ℕ). slots_among (values elems place k)) z
-
 -- ---- a turn: what was pushed, and what is left to push
 
 pub record Along (front back m₀ sc₀ : List ℕ) (top₀ : ℕ) (m sc : List ℕ) (top : ℕ) : Type 0 where
@@ -155,6 +150,3 @@ take_more l i h = ap (λ (n : ℕ). take n l) (add-one i) ∙ take-suc l i 0 h
 
 pub drop_more : (l : List ℕ) (i : ℕ) → i < length l → drop i l ≡ (get_or l i 0 ∷ []) ++ drop (i + 1) l
 drop_more l i h = drop-cons l i 0 h ∙ ap (λ (n : ℕ). get_or l i 0 ∷ drop n l) (sym (add-one i))
-
-pub take_whole : (l : List ℕ) (i : ℕ) → i ≤ length l → length l ≤ i → take i l ≡ l
-take_whole l i a b = let e : i ≡ length l = omega arith in ap (λ (n : ℕ). take n l) e ∙ lib.Seq.take-length l

@@ -1,15 +1,15 @@
 -- Roots in use, one after the other. Assumes nothing.
-use mathlib.Core.Path.{◌≡◌, sym, ap, ◌∙◌}
-use mathlib.Core.Bool.{Bool, true, false}
-use mathlib.Core.List.{List, []}
-use Prim.Native.Nat.{ℕ, ◌+◌, ◌/◌, ◌%◌, ◌≤◌, ◌<◌}
-use native.Mathlib.Numerals.{add-one}
+use mathlib.Core.Path.{◌≡◌, refl, sym, ap, ◌∙◌}
+use mathlib.Core.Bool.{Bool, true, false, ◌&&◌}
+use mathlib.Core.List.{List, [], ◌∷◌}
+use Rattle.std.specs.List.{list_all}
+use Prim.Native.Nat.{ℕ, ◌/◌, ◌%◌, ◌<◌}
 use native.Mathlib.Omega.{arith}
 use native.Mathlib.Decide.{dec_lt}
 use borrow.Author.Tests.{le-ltb}
 use lib.Dec.{ltb}
-use lib.ListN.{length, get_or, drop, take, drop_of_length-le}
-use lib.Seq.{drop-cons, get_or-take}
+use lib.ListN.{get_or, take}
+use lib.Seq.{get_or-take}
 use Rattle.laws.specs.Basics.{both, every, basics}
 use Rattle.rules.specs.Map.{state_in, is_allocated, Allocated, map_rules}
 use Rattle.rules.specs.Heap.{in_use}
@@ -17,6 +17,10 @@ use Rattle.rules.specs.Layout.{heap_of, layout_rules}
 use Rattle.heap_sound_rows.specs.Rows.{lists}
 use Rattle.heap_sound_rows.proofs.HeapFacts.{cells_length}
 use Rattle.heap_sound_cells.specs.Looked.{used_slot}
+
+and_both : (a b : Bool) → (a && b) ≡ both a b
+and_both true b = refl
+and_both false b = refl
 
 module _ (words m : List ℕ) (fours : get_or words 1 0 % 4 ≡ 0) where
   abbrev cap : ℕ
@@ -40,18 +44,8 @@ module _ (words m : List ℕ) (fours : get_or words 1 0 % 4 ≡ 0) where
             ∙ ap (λ (n : ℕ). both (ltb s n) (is_allocated (take (cap / 4) m) s)) size
       ]
 
-module _ (f : ℕ → Bool) (l : List ℕ) (i : ℕ) where
-  pub every_on : i < length l → f (get_or l i 0) ≡ true → every f (drop i l) ≡ every f (drop (i + 1) l)
+  pub roots_are : (roots : List ℕ) → list_all (used_slot cap m) roots ≡ every (in_use (heap_of (lists words m [] []))) roots
   unfolding basics
-  every_on h e =
-      ap (every f) (drop-cons l i 0 h) ∙ ap (λ (b : Bool). both b (every f (drop (Prim.Native.Nat.suc i) l))) e
-      ∙ ap (λ (n : ℕ). every f (drop n l)) (sym (add-one i))
-
-  pub every_stops : i < length l → f (get_or l i 0) ≡ false → false ≡ every f (drop i l)
-  unfolding basics
-  every_stops h e =
-      sym (ap (every f) (drop-cons l i 0 h) ∙ ap (λ (b : Bool). both b (every f (drop (Prim.Native.Nat.suc i) l))) e)
-
-  pub every_ends : length l ≤ i → true ≡ every f (drop i l)
-  unfolding basics
-  every_ends h = sym (ap (every f) (drop_of_length-le l h))
+  roots_are [] = refl
+  roots_are (s ∷ roots) =
+      and_both (used_slot cap m s) (list_all (used_slot cap m) roots) ∙ (λ i. both (in_use_is s i) (roots_are roots i))

@@ -14,6 +14,8 @@ ghost use Rattle.heap_mark.specs.Marks.{CanPush, Pushed, values, leads, Rowed, C
 
 use leaf_cells::{VCell, Value};
 
+// Kept: single lists, since marking changes the map alone, which lists all to be read or all to be changed don't say.
+
 // No. 14: every root is below the capacity and Allocated.
 pub fn roots_in_use(words: &[u64], map: &[u8], roots: &[u64]) -> bool
     requires in_bounds { 8 ≤ length words.now }
@@ -21,14 +23,9 @@ pub fn roots_in_use(words: &[u64], map: &[u8], roots: &[u64]) -> bool
     ensures { result ≡ every (in_use (heap_of (lists words.now map.now [] []))) roots.now }
 {
     let capacity = words[1] as usize;
-    let mut i = 0;
-    while i < roots.len() {
-        if !heap_sound_cells::in_use(map, capacity, roots[i]) {
-            return false;
-        }
-        i += 1;
-    }
-    true
+    roots
+        .iter()
+        .all(|root| heap_sound_cells::in_use(map, capacity, *root))
 }
 
 // A slot met: marked and on the stack, if it was not marked yet. Answers the stack's new height.
@@ -50,10 +47,8 @@ fn push_roots(map: &mut [u8], scratch: &mut [u64], roots: &[u64]) -> usize
     ensures { Pushed roots.now map.old scratch.old 0 map.new scratch.new result }
 {
     let mut top = 0;
-    let mut k = 0;
-    while k < roots.len() {
-        top = push(map, scratch, top, roots[k] as usize);
-        k += 1;
+    for root in roots {
+        top = push(map, scratch, top, *root as usize);
     }
     top
 }
@@ -83,11 +78,9 @@ fn push_elements(
     ensures { Pushed (slots_among (values elems.now place size)) map.old scratch.old top map.new scratch.new result }
 {
     let mut height = top;
-    let mut j = 0;
-    while j < size {
+    for j in 0..size {
         let v = leaf_cells::load_element(elems, place + j);
         height = push_value(map, scratch, height, v);
-        j += 1;
     }
     height
 }
@@ -106,8 +99,7 @@ fn push_cell(
     requires can_push { CanPush (leads words.now elems.now slot) map.old scratch.old top }
     ensures { Pushed (leads words.now elems.now slot) map.old scratch.old top map.new scratch.new result }
 {
-    let cell = leaf_cells::load(words, slot);
-    match cell {
+    match leaf_cells::load(words, slot) {
         VCell::Pair(car, cdr) => {
             let height = push(map, scratch, top, car);
             push(map, scratch, height, cdr)
@@ -118,6 +110,8 @@ fn push_cell(
 }
 
 // Marks all that the roots reach, and nothing else. What the scratch holds afterwards is not said.
+//
+// Kept: the stack is the start of the lent scratch, with its height beside it (the C interface; the libraries have no heap).
 pub fn mark(words: &[u64], map: &mut [u8], elems: &[u64], scratch: &mut [u64], roots: &[u64])
     requires { CanMark words.now map.old elems.now scratch.old roots.now }
     ensures { map.new ≡ marked_map words.now map.old elems.now roots.now }

@@ -3,6 +3,7 @@ use mathlib.Core.Path.{◌≡◌, refl, sym, ap, ◌∙◌}
 use mathlib.Core.Bool.{Bool, true, false}
 use mathlib.Core.List.{List, [], ◌∷◌}
 use mathlib.Core.Option.{Option, none, some}
+use mathlib.Core.Logic.{◌⊎◌, inl, inr}
 use Prim.Native.Nat.{ℕ, ◌+◌, ◌-◌, ◌≤◌, ◌<◌}
 use native.Mathlib.Omega.{arith}
 use borrow.Author.Tests.{lt-ltb, le-ltb}
@@ -25,10 +26,12 @@ use Rattle.leaf_free.specs.FreeList.{capacity_of, count_of}
 use Rattle.leaf_symbols.specs.Table.{bytes_used, slot_of}
 use Rattle.leaf_symbols.proofs.TableLaws.{bytes_word, TableFits, tabled, bytes_within, found_is}
 use Rattle.heap_needs.specs.declared.Needed as code
-use Rattle.heap_needs.specs.declared.Lack.TheVariants.{Nothing, Slots, Room}
+use Rattle.refusals.specs.declared.Refusal.TheVariants.{NoSlots, NoRoom}
+use Rattle.refusals.specs.Told.{refusal_of}
+use Rattle.std.specs.Prelude.{Ok, Err}
 use Rattle.heap_needs.specs.Needs.{Needs, no_needs, in_table, need, needs_of, needs_rules}
 use Rattle.heap_needs.specs.Pass.{known_in, Lent, needed, pass_rules}
-use Rattle.heap_needs.specs.Lacks.{lent_slots, elements_used, most_slots, first_short, short_of, refusal_of, Measured}
+use Rattle.heap_needs.specs.Lacks.{lent_slots, elements_used, most_slots, first_short, short_of, Measured}
 use Rattle.heap_needs.proofs.Taking.{Needed, put_needs, slots_told, bytes_told, elements_told}
 
 -- ---- the code's answers
@@ -47,27 +50,21 @@ module _ (ws : List ℕ) (n : code.Needed) (bytes elements : ℕ) where
   unfolding short_of
   short_by a b c p q r = λ i. first_short (sym p i) (sym q i) (sym r i)
 
-  pub short_slots : count_of ws + (most_slots ws - capacity_of ws) < n.slots → Slots ≡ short_of ws n bytes elements
+  pub short_slots : count_of ws + (most_slots ws - capacity_of ws) < n.slots → Err NoSlots ≡ short_of ws n bytes elements
   short_slots l = short_by true bytes_test elements_test (lt-ltb _ _ l) refl refl
 
   module _ (m : Measured ws bytes elements) (enough : n.slots ≤ count_of ws + (most_slots ws - capacity_of ws)) where
-    pub short_bytes : bytes - bytes_used ws < n.bytes → Room ≡ short_of ws n bytes elements
-    short_bytes l =
+    pub short_room : (bytes - bytes_used ws < n.bytes) ⊎ ((n.bytes ≤ bytes - bytes_used ws) × (elements - elements_used ws < n.elements)) → Err NoRoom ≡ short_of ws n bytes elements
+    short_room (inl l) =
         short_by false true elements_test (le-ltb _ _ enough) (lt-ltb bytes (bytes_used ws + n.bytes) (omega (arith, m.texts))) refl
+    short_room (inr (k, l)) =
+        short_by false false true (le-ltb _ _ enough) (le-ltb bytes (bytes_used ws + n.bytes) (omega (arith, m.texts)))
+        (lt-ltb elements (elements_used ws + n.elements) (omega (arith, m.room)))
 
-    module _ (text_room : n.bytes ≤ bytes - bytes_used ws) where
-      bytes_enough : bytes_test ≡ false
-      bytes_enough = le-ltb bytes (bytes_used ws + n.bytes) (omega (arith, m.texts))
-
-      pub short_elements : elements - elements_used ws < n.elements → Room ≡ short_of ws n bytes elements
-      short_elements l =
-          short_by false false true (le-ltb _ _ enough) bytes_enough
-          (lt-ltb elements (elements_used ws + n.elements) (omega (arith, m.room)))
-
-      pub short_none : n.elements ≤ elements - elements_used ws → Nothing ≡ short_of ws n bytes elements
-      short_none l =
-          short_by false false false (le-ltb _ _ enough) bytes_enough
-          (le-ltb elements (elements_used ws + n.elements) (omega (arith, m.room)))
+    pub short_none : n.bytes ≤ bytes - bytes_used ws → n.elements ≤ elements - elements_used ws → Ok tt ≡ short_of ws n bytes elements
+    short_none k l =
+        short_by false false false (le-ltb _ _ enough) (le-ltb bytes (bytes_used ws + n.bytes) (omega (arith, m.texts)))
+        (le-ltb elements (elements_used ws + n.elements) (omega (arith, m.room)))
 
 -- ---- the words of a heap
 
@@ -152,7 +149,7 @@ put_short n room bytes elements h d g small f w e =
     ∙ short_told n bytes elements h (put_datum d h).making.heap (needs_of h d) (put_needs d h g f w e)
 
 -- the rules' tests in their order, by the code's answer
-pub unless_short : {A : Type 0} (a b c : Bool) (x : A) (refuse : Refusal → A) → unless ((a ⇒ no_slots) ∷ (b ⇒ no_room) ∷ (c ⇒ no_room) ∷ []) x refuse ≡ elim (refusal_of (first_short a b c)) as (λ o. A) [ none ↦ x | some r ↦ refuse r ]
+pub unless_short : {A : Type 0} (a b c : Bool) (x : A) (refuse : Refusal → A) → unless ((a ⇒ no_slots) ∷ (b ⇒ no_room) ∷ (c ⇒ no_room) ∷ []) x refuse ≡ elim (first_short a b c) as (λ o. A) [ Ok u ↦ x | Err r ↦ refuse (refusal_of r) ]
 unfolding refusals
 unless_short true b c x refuse = refl
 unless_short false true c x refuse = refl

@@ -9,6 +9,7 @@ use lib.ListN.{length, get_or, set, replicate, length-set, length-replicate}
 use lib.Seq.{get_or-set_same, get_or-set_other}
 use Rattle.heap_needs.specs.Pass.{node_of, flags, stack_of, Clear, Pushed, pass_rules}
 use Rattle.leaf_nodes.specs.declared.Node as leaf
+use Rattle.leaf_nodes.specs.declared.Node.TheVariants.{Plain, String, Symbol, Ident, Ref, Pair, Vector, Def}
 
 stack_same : (s s' : List ℕ) (n : ℕ) → ((i : ℕ) → i < n → get_or s' i 0 ≡ get_or s i 0) → stack_of s' n ≡ stack_of s n
 unfolding pass_rules
@@ -17,8 +18,20 @@ stack_same s s' (suc n) p = λ j. p n (omega arith) j ∷ stack_same s s' n (λ 
 
 -- ---- on
 
-pub push_none : (s : List ℕ) (top : ℕ) → Clear s top → Pushed s s top top []
-push_none s top c = record { top_is = omega arith; stack = refl; clear = c }
+pub push_none : (s : List ℕ) (top : ℕ) (fs : List ℕ) → Clear s top → fs ≡ [] → Pushed s s top top fs
+push_none s top fs c e = subst (λ (l : List ℕ). Pushed s s top top l) (sym e) (record { top_is = omega arith; stack = refl; clear = c })
+
+-- what is none of these is followed by none
+pub no_flags : (x : leaf.Node) → (x ≡ Pair → ⊥) → ((n : ℕ) → x ≡ Vector n → ⊥) → ((l : ℕ) → x ≡ Def l → ⊥) → flags (node_of x []) ≡ []
+unfolding pass_rules
+no_flags (Plain v) a b c = refl
+no_flags (String n) a b c = refl
+no_flags (Symbol n) a b c = refl
+no_flags (Ident s n) a b c = refl
+no_flags (Ref l) a b c = refl
+no_flags Pair a b c = absurd (a refl)
+no_flags (Vector n) a b c = absurd (b n refl)
+no_flags (Def l) a b c = absurd (c l refl)
 
 zeros_on : (s : List ℕ) (top n : ℕ) → Clear s top → stack_of s (top + n) ≡ replicate n 0 ++ stack_of s top
 unfolding pass_rules

@@ -9,7 +9,14 @@ ghost use Rattle.leaf_nodes.specs.Reads.{text_length};
 ghost use Rattle.rules.specs.Datum.{Datum, encode, datum_fits};
 ghost use Rattle.heap_needs.specs.Needs.{met, a_name, symbol_needs, node_needs, need, no_needs};
 ghost use Rattle.heap_needs.specs.Lacks.{Measured, short_of};
-ghost use Rattle.heap_needs.specs.Pass.{names_in, Rows, needs_in, known_in, Lent, node_of, following, flags, Countable, Counted, with_more, Clear, Pushed, Going, Turned, Started, DatumThere, needed};
+ghost use Rattle.heap_needs.specs.Pass.{names_in, Within, needs_in, known_in, Lent, node_of, following, flags, Countable, Counted, with_more, Clear, Pushed, Going, Turned, Started, DatumThere, needed};
+
+use arrayvec::ArrayVec;
+use leaf_nodes::Node;
+use refusals::Refusal;
+
+// "4,096 nodes": no more names, and no more data awaited.
+const NODES: usize = 4096;
 
 // Words of the header.
 const CHUNK: usize = 0;
@@ -30,59 +37,55 @@ pub struct Needed {
     pub elements: usize,
 }
 
-// What the nodes so far take, how many names they make, the next node's place, and how many data are awaited.
+// A name met: its place and size in the lent datum, and its scope.
+#[derive(Clone, Copy, Default)]
+struct Name {
+    place: usize,
+    size: usize,
+    scope: u64,
+}
+
+// What the nodes so far take, the next node's place, and how many data are awaited.
 #[derive(Clone, Copy)]
 struct Tally {
     slots: usize,
     bytes: usize,
     elements: usize,
-    names: usize,
     at: usize,
     top: usize,
 }
 
 // The name was met under this scope.
-fn is_met(keys: &[u64; 12288], datum: &[u8], count: usize, name: &[u8], scope: u64) -> bool
-    requires { Rows keys.now datum.now count }
-    ensures { result ≡ met (names_in keys.now datum.now count) name.now scope }
+fn is_met(names: &[Name], datum: &[u8], name: &[u8], scope: u64) -> bool
+    requires { Within names.now datum.now }
+    ensures { result ≡ met (names_in names.now datum.now) name.now scope }
 {
-    let mut i = count;
-    while 0 < i {
-        i -= 1;
-        let row = 3 * i;
-        if keys[row + 2] == scope {
-            let start = keys[row] as usize;
-            let end = start + keys[row + 1] as usize;
-            if leaf_names::same(&datum[start..end], name) {
-                return true;
-            }
+    for n in names {
+        if n.scope == scope && leaf_names::same(&datum[n.place..n.place + n.size], name) {
+            return true;
         }
     }
     false
 }
 
-// A new name, in the next row: a slot, its bytes, and an entry of the table.
+// A new name: a slot, its bytes, and an entry of the table.
 fn make_name(
     datum: &[u8],
-    keys: &mut [u64; 12288],
+    names: &mut ArrayVec<Name, NODES>,
     t: Tally,
     size: usize,
     end: usize,
     scope: u64,
 ) -> Tally
-    requires { Countable keys.old datum.now t size end }
-    ensures { Counted keys.old keys.new datum.now t result size 0 (a_name (take size (drop (end - size) datum.now)) scope (needs_in keys.old datum.now t)) }
+    requires { Countable names.old.items datum.now t size end }
+    ensures { Counted names.old.items names.new.items datum.now t result size 0 (a_name (take size (drop (end - size) datum.now)) scope (needs_in names.old.items datum.now t)) }
 {
-    let names = t.names;
-    let row = 3 * names;
-    keys[row] = (end - size) as u64;
-    keys[row + 1] = size as u64;
-    keys[row + 2] = scope;
-    let mut u = t;
-    u.slots = t.slots + 1;
-    u.bytes = t.bytes + size;
-    u.names = names + 1;
-    u
+    names.push(Name {
+        place: end - size,
+        size,
+        scope,
+    });
+    more(t, 1, size, 0)
 }
 
 // The table has a symbol of this name, which ends at a place of the datum, under this scope.
@@ -93,11 +96,7 @@ fn is_known(words: &[u64], bytes: &[u8], datum: &[u8], size: usize, end: usize, 
     ensures { result ≡ known_in words.now bytes.now (take size (drop (end - size) datum.now)) scope }
 {
     let start = end - size;
-    let found = leaf_find::find(words, bytes, &datum[start..end], scope);
-    match found {
-        leaf_find::Found::At(_) => true,
-        leaf_find::Found::Missing => false,
-    }
+    leaf_find::find(words, bytes, &datum[start..end], scope).is_some()
 }
 
 // "A symbol is found or made": found in the table or among the names met, it takes nothing.
@@ -105,24 +104,24 @@ fn count_name(
     words: &[u64],
     bytes: &[u8],
     datum: &[u8],
-    keys: &mut [u64; 12288],
+    names: &mut ArrayVec<Name, NODES>,
     t: Tally,
     size: usize,
     end: usize,
     scope: u64,
 ) -> Tally
     requires lent { Lent words.now bytes.now }
-    requires countable { Countable keys.old datum.now t size end }
-    ensures { Counted keys.old keys.new datum.now t result size 0 (symbol_needs (known_in words.now bytes.now) (take size (drop (end - size) datum.now)) scope (needs_in keys.old datum.now t)) }
+    requires countable { Countable names.old.items datum.now t size end }
+    ensures { Counted names.old.items names.new.items datum.now t result size 0 (symbol_needs (known_in words.now bytes.now) (take size (drop (end - size) datum.now)) scope (needs_in names.old.items datum.now t)) }
 {
     if is_known(words, bytes, datum, size, end, scope) {
         return t;
     }
     let start = end - size;
-    if is_met(keys, datum, t.names, &datum[start..end], scope) {
+    if is_met(names, datum, &datum[start..end], scope) {
         return t;
     }
-    make_name(datum, keys, t, size, end, scope)
+    make_name(datum, names, t, size, end, scope)
 }
 
 // A slot, some bytes and some elements more.
@@ -144,53 +143,46 @@ fn count(
     words: &[u64],
     bytes: &[u8],
     datum: &[u8],
-    keys: &mut [u64; 12288],
+    names: &mut ArrayVec<Name, NODES>,
     t: Tally,
-    node: leaf_nodes::Node,
+    node: Node,
     wanted: bool,
     end: usize,
 ) -> Tally
     requires lent { Lent words.now bytes.now }
-    requires countable { Countable keys.old datum.now t (text_length node) end }
+    requires countable { Countable names.old.items datum.now t (text_length node) end }
     requires node_bound { following node ≤ 4096 }
-    ensures { Counted keys.old keys.new datum.now t result (text_length node) (following node) (node_needs (known_in words.now bytes.now) wanted (node_of node (take (text_length node) (drop (end - text_length node) datum.now))) (needs_in keys.old datum.now t)) }
+    ensures { Counted names.old.items names.new.items datum.now t result (text_length node) (following node) (node_needs (known_in words.now bytes.now) wanted (node_of node (take (text_length node) (drop (end - text_length node) datum.now))) (needs_in names.old.items datum.now t)) }
 {
     match node {
-        leaf_nodes::Node::Faulty(_) => t,
-        leaf_nodes::Node::Plain(_) => { if wanted { more(t, 1, 0, 0) } else { t } }
-        leaf_nodes::Node::String(n) => more(t, 1, n, 0),
-        leaf_nodes::Node::Symbol(n) => count_name(words, bytes, datum, keys, t, n, end, 0),
-        leaf_nodes::Node::Ident(scope, n) => count_name(
-            words, bytes, datum, keys, t, n, end, scope,
-        ),
-        leaf_nodes::Node::Ref(_) => t,
-        leaf_nodes::Node::Pair => more(t, 1, 0, 0),
-        leaf_nodes::Node::Vector(n) => more(t, 1, 0, n),
-        leaf_nodes::Node::Def(_) => more(t, 1, 0, 0),
+        Node::Plain(_) => { if wanted { more(t, 1, 0, 0) } else { t } }
+        Node::String(n) => more(t, 1, n, 0),
+        Node::Symbol(n) => count_name(words, bytes, datum, names, t, n, end, 0),
+        Node::Ident(scope, n) => count_name(words, bytes, datum, names, t, n, end, scope),
+        Node::Ref(_) => t,
+        Node::Pair | Node::Def(_) => more(t, 1, 0, 0),
+        Node::Vector(n) => more(t, 1, 0, n),
     }
 }
 
+// Kept: a stack of bytes with its top: a vector's n flags stand above the top already, where an ArrayVec would push n times false.
+
 // The data that follow a node are awaited, the first of them on top. A place of the stack is 1 where a scalar wants a slot,
 // and 0 above the top.
-fn push(stack: &mut [u8; 4096], top: usize, node: leaf_nodes::Node) -> usize
+fn push(stack: &mut [u8; 4096], top: usize, node: Node) -> usize
     requires clear { Clear stack.old top }
     requires node_bound { top + following node ≤ 4096 }
     ensures { Pushed stack.old stack.new top result (flags (node_of node [])) }
 {
     match node {
-        leaf_nodes::Node::Faulty(_) => top,
-        leaf_nodes::Node::Plain(_) => top,
-        leaf_nodes::Node::String(_) => top,
-        leaf_nodes::Node::Symbol(_) => top,
-        leaf_nodes::Node::Ident(_, _) => top,
-        leaf_nodes::Node::Ref(_) => top,
-        leaf_nodes::Node::Pair => {
+        Node::Pair => {
             stack[top] = 1;
             stack[top + 1] = 1;
             top + 2
         }
-        leaf_nodes::Node::Vector(n) => top + n,
-        leaf_nodes::Node::Def(_) => top + 1,
+        Node::Vector(n) => top + n,
+        Node::Def(_) => top + 1,
+        _ => top,
     }
 }
 
@@ -199,23 +191,25 @@ fn turn(
     words: &[u64],
     bytes: &[u8],
     datum: &[u8],
-    keys: &mut [u64; 12288],
+    names: &mut ArrayVec<Name, NODES>,
     stack: &mut [u8; 4096],
     t: Tally,
 ) -> Tally
     requires lent { Lent words.now bytes.now }
     requires top_nonzero { 0 < t.top }
-    requires going { Going (known_in words.now bytes.now) datum.now keys.old stack.old t }
-    ensures { Turned (known_in words.now bytes.now) datum.now keys.old stack.old keys.new stack.new t result }
+    requires going { Going (known_in words.now bytes.now) datum.now names.old.items stack.old t }
+    ensures { Turned (known_in words.now bytes.now) datum.now names.old.items stack.old names.new.items stack.new t result }
 {
     let top = t.top - 1;
     let wanted = stack[top] == 1;
     stack[top] = 0;
     let at = t.at;
-    let read = leaf_nodes::read_node(&datum[at..]);
+    let Ok(read) = leaf_nodes::read_node(&datum[at..]) else {
+        unreachable!()
+    };
     let node = read.node;
     let end = at + read.size;
-    let mut u = count(words, bytes, datum, keys, t, node, wanted, end);
+    let mut u = count(words, bytes, datum, names, t, node, wanted, end);
     u.at = end;
     u.top = push(stack, top, node);
     u
@@ -231,7 +225,6 @@ fn start(stack: &mut [u8; 4096]) -> Tally
         slots: 0,
         bytes: 0,
         elements: 0,
-        names: 0,
         at: 0,
         top: 1,
     }
@@ -243,11 +236,11 @@ pub fn needs(words: &[u64], bytes: &[u8], datum: &[u8]) -> Needed
     requires datum_there { DatumThere datum.now }
     ensures { (d : Datum) → datum.now ≡ encode d → datum_fits d ≡ true → result ≡ needed (need (known_in words.now bytes.now) true d no_needs) }
 {
-    let mut keys = [0; 12288];
+    let mut names = ArrayVec::new();
     let mut stack = [0; 4096];
     let mut t = start(&mut stack);
     while 0 < t.top {
-        t = turn(words, bytes, datum, &mut keys, &mut stack, t);
+        t = turn(words, bytes, datum, &mut names, &mut stack, t);
     }
     Needed {
         slots: t.slots,
@@ -256,17 +249,9 @@ pub fn needs(words: &[u64], bytes: &[u8], datum: &[u8]) -> Needed
     }
 }
 
-// What of it is not there: the slots (16), or else the room of an arena (17).
-#[derive(Clone, Copy)]
-pub enum Lack {
-    Nothing,
-    Slots,
-    Room,
-}
-
-// Holds what is needed against the free slots and all growth that fits, then against the room left in the two arenas, of
-// which the lengths are given.
-pub fn short(words: &[u64], needed: Needed, bytes: usize, elements: usize) -> Lack
+// Holds what is needed against the free slots and all growth that fits (16), then against the room left in the two arenas, of
+// which the lengths are given (17).
+pub fn short(words: &[u64], needed: Needed, bytes: usize, elements: usize) -> Result<(), Refusal>
     requires { Measured words.now bytes elements }
     ensures { result ≡ short_of words.now needed bytes elements }
 {
@@ -275,15 +260,12 @@ pub fn short(words: &[u64], needed: Needed, bytes: usize, elements: usize) -> La
     let most = leaf_free::fitting(words[CHUNK] as usize, lent, capacity);
     let free = words[FREE_COUNT] as usize;
     if free + (most - capacity) < needed.slots {
-        return Lack::Slots;
+        return Err(Refusal::NoSlots);
     }
     let text_room = bytes - words[BYTES_USED] as usize;
-    if text_room < needed.bytes {
-        return Lack::Room;
-    }
     let room = elements - words[ELEMENTS_USED] as usize;
-    if room < needed.elements {
-        return Lack::Room;
+    if text_room < needed.bytes || room < needed.elements {
+        return Err(Refusal::NoRoom);
     }
-    Lack::Nothing
+    Ok(())
 }

@@ -1,8 +1,12 @@
 -- The block of a cell by value, and the cell with another place. Assumes nothing.
-use mathlib.Core.Path.{◌≡◌, refl}
+use mathlib.Core.Path.{◌≡◌, refl, sym, ap, ◌∙◌}
+use mathlib.Core.Logic.{◌⊎◌, inl, inr}
+use Prim.Native.Nat.{ℕ}
 use Rattle.rules.specs.Cells.{Block, block}
 use Rattle.rules.specs.Sound.{text_block, vector_block}
 use Rattle.leaf_cells.specs.Cells.{cell_of}
+use Rattle.heap_pack.specs.declared.Span.{Span}
+use Rattle.heap_pack.specs.Moves.{shown}
 use Rattle.leaf_cells.specs.declared.VCell.{VCell}
 use Rattle.leaf_cells.specs.declared.VCell.TheVariants.{Undefined, Nil, Eof, Void, Bool, Char, Number, Pair, Symbol, String, Vector}
 
@@ -59,3 +63,40 @@ vector_span_is (Pair a d) = refl
 vector_span_is (Symbol p n) = refl
 vector_span_is (String p n) = refl
 vector_span_is (Vector p n) = refl
+
+-- the block of a symbol or a string is its own, and that of any other cell is empty
+pub text_of : (c : VCell) (p n : ℕ) → (c ≡ Symbol p n) ⊎ (c ≡ String p n) → block p n ≡ text_block (cell_of c)
+text_of c p n (inl e) = ap {A = VCell} text_span (sym e) ∙ text_span_is c
+text_of c p n (inr e) = ap {A = VCell} text_span (sym e) ∙ text_span_is c
+
+pub no_text_block : (c : VCell) → ((p n : ℕ) → c ≡ Symbol p n → ⊥) → ((p n : ℕ) → c ≡ String p n → ⊥) → (b : Span) → (b.place ≡ 0) × (b.size ≡ 0) → shown b ≡ text_block (cell_of c)
+no_text_block c d e b z = (λ i. block (z.0 i) (z.1 i)) ∙ none c d e ∙ text_span_is c
+  where
+    none : (c : VCell) → ((p n : ℕ) → c ≡ Symbol p n → ⊥) → ((p n : ℕ) → c ≡ String p n → ⊥) → block 0 0 ≡ text_span c
+    none Undefined d e = refl
+    none Nil d e = refl
+    none Eof d e = refl
+    none Void d e = refl
+    none (Bool b) d e = refl
+    none (Char n) d e = refl
+    none (Number n) d e = refl
+    none (Pair a b) d e = refl
+    none (Symbol p n) d e = absurd (d p n refl)
+    none (String p n) d e = absurd (e p n refl)
+    none (Vector p n) d e = refl
+
+pub no_vector_block : (c : VCell) → ((p n : ℕ) → c ≡ Vector p n → ⊥) → (b : Span) → (b.place ≡ 0) × (b.size ≡ 0) → shown b ≡ vector_block (cell_of c)
+no_vector_block c d b z = (λ i. block (z.0 i) (z.1 i)) ∙ none c d ∙ vector_span_is c
+  where
+    none : (c : VCell) → ((p n : ℕ) → c ≡ Vector p n → ⊥) → block 0 0 ≡ vector_span c
+    none Undefined d = refl
+    none Nil d = refl
+    none Eof d = refl
+    none Void d = refl
+    none (Bool b) d = refl
+    none (Char n) d = refl
+    none (Number n) d = refl
+    none (Pair a b) d = refl
+    none (Symbol p n) d = refl
+    none (String p n) d = refl
+    none (Vector p n) d = absurd (d p n refl)

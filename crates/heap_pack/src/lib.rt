@@ -10,14 +10,16 @@ ghost use Rattle.rules.specs.Heap.{Heap};
 ghost use Rattle.rules.specs.Layout.{Rooms};
 ghost use Rattle.rules.specs.Sound.{text_block, vector_block};
 ghost use Rattle.leaf_cells.specs.Cells.{cell_of};
+ghost use Rattle.leaf_lists.specs.Lists.{SameLists};
 ghost use Rattle.leaf_rooms.specs.Rooms.{stored};
 ghost use Rattle.heap_pack.specs.Moves.{shown, placed, Written, TextMoved, ElementsMoved, TextReady, TextTurned, ElementsReady, ElementsTurned};
 ghost use Rattle.heap_pack.specs.Passes.{TextsBegin, TextsEnd, TextsLent, TextsPacked, ElementsBegin, ElementsEnd, ElementsLent, ElementsPacked, TextsGiven, ElementsGiven, PackGiven, AllPacked};
 
 use leaf_cells::VCell;
+use leaf_lists::ListsMut;
 
-// A block: its place and its length.
-#[derive(Clone, Copy)]
+// A block: its place and its length; none is the empty one at place 0.
+#[derive(Clone, Copy, Default)]
 pub struct Span {
     pub place: usize,
     pub size: usize,
@@ -35,17 +37,8 @@ fn text_block(c: VCell) -> Span
     ensures { shown result ≡ text_block (cell_of c) }
 {
     match c {
-        VCell::Symbol(place, size) => Span { place, size },
-        VCell::String(place, size) => Span { place, size },
-        VCell::Undefined => Span { place: 0, size: 0 },
-        VCell::Nil => Span { place: 0, size: 0 },
-        VCell::Eof => Span { place: 0, size: 0 },
-        VCell::Void => Span { place: 0, size: 0 },
-        VCell::Bool(_) => Span { place: 0, size: 0 },
-        VCell::Char(_) => Span { place: 0, size: 0 },
-        VCell::Number(_) => Span { place: 0, size: 0 },
-        VCell::Pair(_, _) => Span { place: 0, size: 0 },
-        VCell::Vector(_, _) => Span { place: 0, size: 0 },
+        VCell::Symbol(place, size) | VCell::String(place, size) => Span { place, size },
+        _ => Span::default(),
     }
 }
 
@@ -55,16 +48,7 @@ fn vector_block(c: VCell) -> Span
 {
     match c {
         VCell::Vector(place, size) => Span { place, size },
-        VCell::Undefined => Span { place: 0, size: 0 },
-        VCell::Nil => Span { place: 0, size: 0 },
-        VCell::Eof => Span { place: 0, size: 0 },
-        VCell::Void => Span { place: 0, size: 0 },
-        VCell::Bool(_) => Span { place: 0, size: 0 },
-        VCell::Char(_) => Span { place: 0, size: 0 },
-        VCell::Number(_) => Span { place: 0, size: 0 },
-        VCell::Pair(_, _) => Span { place: 0, size: 0 },
-        VCell::Symbol(_, _) => Span { place: 0, size: 0 },
-        VCell::String(_, _) => Span { place: 0, size: 0 },
+        _ => Span::default(),
     }
 }
 
@@ -76,26 +60,7 @@ fn with_place(c: VCell, to: usize) -> VCell
         VCell::Symbol(_, size) => VCell::Symbol(to, size),
         VCell::String(_, size) => VCell::String(to, size),
         VCell::Vector(_, size) => VCell::Vector(to, size),
-        VCell::Undefined => VCell::Undefined,
-        VCell::Nil => VCell::Nil,
-        VCell::Eof => VCell::Eof,
-        VCell::Void => VCell::Void,
-        VCell::Bool(b) => VCell::Bool(b),
-        VCell::Char(n) => VCell::Char(n),
-        VCell::Number(n) => VCell::Number(n),
-        VCell::Pair(a, d) => VCell::Pair(a, d),
-    }
-}
-
-// Words written from a place on.
-fn write_words(words: &mut [u64], at: usize, new: &[u64])
-    requires { at + length new.now ≤ length words.old }
-    ensures { words.new ≡ stored words.old at new.now }
-{
-    let mut i = 0;
-    while i < new.len() {
-        words[at + i] = new[i];
-        i += 1;
+        _ => c,
     }
 }
 
@@ -116,7 +81,7 @@ fn move_text(
         return Gone { to: known - 1, at };
     }
     let end = place + size;
-    leaf_rooms::write_bytes(&mut bytes[at..], 0, &old[place..end]);
+    leaf_rooms::write(&mut bytes[at..], 0, &old[place..end]);
     table[place] = (at + 1) as u32;
     Gone {
         to: at,
@@ -143,7 +108,7 @@ fn move_elements(
     let start = 3 * place;
     let end = start + 3 * size;
     let from = 3 * at;
-    write_words(&mut elems[from..], 0, &old[start..end]);
+    leaf_rooms::write(&mut elems[from..], 0, &old[start..end]);
     table[place] = (at + 1) as u32;
     Gone {
         to: at,
@@ -202,10 +167,8 @@ fn text_turns(words: &mut [u64], bytes: &mut [u8], old: &[u8], table: &mut [u32]
 {
     let capacity = words[1] as usize;
     let mut at = 0;
-    let mut s = 0;
-    while s < capacity {
+    for s in 0..capacity {
         at = pack_text(words, bytes, old, table, at, s);
-        s += 1;
     }
     at
 }
@@ -216,7 +179,7 @@ fn pack_texts_in(words: &mut [u64], bytes: &mut [u8], old: &mut [u8], table: &mu
     ensures { (n : ℕ) (h : Heap) (room : ℕ) → TextsLent n h room words.old bytes.old old.old table.old → TextsPacked n h room words.new bytes.new }
 {
     let used = words[4] as usize;
-    leaf_rooms::write_bytes(old, 0, &bytes[..used]);
+    leaf_rooms::write(old, 0, &bytes[..used]);
     let end = text_turns(words, bytes, old, table);
     leaf_clear::clear_bytes(&mut bytes[end..used]);
     words[4] = end as u64;
@@ -229,10 +192,8 @@ fn element_turns(words: &mut [u64], elems: &mut [u64], old: &[u64], table: &mut 
 {
     let capacity = words[1] as usize;
     let mut at = 0;
-    let mut s = 0;
-    while s < capacity {
+    for s in 0..capacity {
         at = pack_elements(words, elems, old, table, at, s);
-        s += 1;
     }
     at
 }
@@ -243,7 +204,7 @@ fn pack_elements_in(words: &mut [u64], elems: &mut [u64], old: &mut [u64], table
     ensures { (n : ℕ) (h : Heap) (room : ℕ) → ElementsLent n h room words.old elems.old old.old table.old → ElementsPacked n h room words.new elems.new }
 {
     let used = 3 * words[5] as usize;
-    write_words(old, 0, &elems[..used]);
+    leaf_rooms::write(old, 0, &elems[..used]);
     let end = element_turns(words, elems, old, table);
     let from = 3 * end;
     leaf_clear::clear_words(&mut elems[from..used]);
@@ -271,10 +232,12 @@ fn pack_vectors(words: &mut [u64], elems: &mut [u64])
 }
 
 // Both arenas packed.
-pub fn pack(words: &mut [u64], bytes: &mut [u8], elems: &mut [u64])
-    requires { (n : ℕ) × (h : Heap) × (r : Rooms) × PackGiven n h r words.old bytes.old elems.old }
-    ensures { (n : ℕ) (h : Heap) (r : Rooms) → PackGiven n h r words.old bytes.old elems.old → AllPacked n h r words.new bytes.new elems.new }
+pub fn pack(heap: &mut ListsMut<'_>)
+    requires { (n : ℕ) × (h : Heap) × (r : Rooms) × PackGiven n h r heap.old.words.now heap.old.bytes.now heap.old.elems.now }
+    ensures same_lists { SameLists heap.old heap.new }
+    ensures map_stays { heap.new.map.now ≡ heap.old.map.now }
+    ensures packed { (n : ℕ) (h : Heap) (r : Rooms) → PackGiven n h r heap.old.words.now heap.old.bytes.now heap.old.elems.now → AllPacked n h r heap.new.words.now heap.new.bytes.now heap.new.elems.now }
 {
-    pack_texts(words, bytes);
-    pack_vectors(words, elems);
+    pack_texts(heap.words, heap.bytes);
+    pack_vectors(heap.words, heap.elems);
 }

@@ -83,12 +83,12 @@ module _ (t : Datum) (rest datum : List ℕ) (is : datum ≡ encode t ++ rest) (
       go (Node.def k) q p = let same : l ≡ k = cc in is_label t l (q ∙ ap Node.def (sym same))
 
 -- the same task, the tree's form known
-pub task_as : (r : Rooms) (f : ℕ) (m : Making) (t u : Datum) (rest : List ℕ) (count : ℕ) (datum words map bytes elems labels : List ℕ) → t ≡ u → Task r f m t rest count datum words map bytes elems labels → Task r f m u rest count datum words map bytes elems labels
-task_as r f m t u rest count datum words map bytes elems labels e k =
+pub task_as : {r : Rooms} {f : ℕ} {m : Making} {t u : Datum} {rest : List ℕ} {count : ℕ} {datum words map bytes elems labels : List ℕ} → t ≡ u → Task r f m t rest count datum words map bytes elems labels → Task r f m u rest count datum words map bytes elems labels
+task_as {r} {f} {m} {t} {u} {rest} {count} {datum} {words} {map} {bytes} {elems} {labels} e k =
     subst (λ (x : Datum). Task r f m x rest count datum words map bytes elems labels) e k
 
-pub done_as : (r : Rooms) (m : Making) (t u : Datum) (v : code_value.Value) (size count : ℕ) (words map bytes elems labels : List ℕ) → t ≡ u → Done r m u v size count words map bytes elems labels → Done r m t v size count words map bytes elems labels
-done_as r m t u v size count words map bytes elems labels e d =
+pub done_as : {r : Rooms} {m : Making} {t u : Datum} {v : code_value.Value} {size count : ℕ} {words map bytes elems labels : List ℕ} → t ≡ u → Done r m u v size count words map bytes elems labels → Done r m t v size count words map bytes elems labels
+done_as {r} {m} {t} {u} {v} {size} {count} {words} {map} {bytes} {elems} {labels} e d =
     subst (λ (x : Datum). Done r m x v size count words map bytes elems labels) (sym e) d
 
 -- ---- a leaf
@@ -111,7 +111,7 @@ atom_aside (Atom.symbol t) m z = symbol_aside t 0 m z
 atom_aside (Atom.ident s t) m z = symbol_aside t s m z
 atom_aside (Atom.ref l) m z = (refl, refl)
 
-module _ (r : Rooms) (f : ℕ) (m : Making) (a : Atom) (rest : List ℕ) (count : ℕ) (datum words map bytes elems labels : List ℕ) (k : Task r f m (tree.atom a) rest count datum words map bytes elems labels) where
+module _ {r : Rooms} {f : ℕ} {m : Making} {a : Atom} {rest : List ℕ} {count : ℕ} {datum words map bytes elems labels : List ℕ} (k : Task r f m (tree.atom a) rest count datum words map bytes elems labels) where
   count_small : count ≤ 64
   count_small =
       omega (
@@ -135,9 +135,9 @@ module _ (r : Rooms) (f : ℕ) (m : Making) (a : Atom) (rest : List ℕ) (count 
         fits = both_left (node_fits (Node.atom a)) _ k.fits;
       }
 
-  pub leaf_done : (v : code_value.Value) (size count' : ℕ) (ws mp bs : List ℕ) → AtomDone r m a count v size count' ws mp bs → Done r m (tree.atom a) v size count' ws mp bs elems labels
+  pub leaf_done : {v : code_value.Value} {size count' : ℕ} {ws mp bs : List ℕ} → AtomDone r m a count v size count' ws mp bs → Done r m (tree.atom a) v size count' ws mp bs elems labels
   unfolding put_rules datum_rules basics
-  leaf_done v size count' ws mp bs d =
+  leaf_done {v} {size} {count'} {ws} {mp} {bs} d =
       let s = atom_aside a m (able_sized r f m k.able) in
       record {
         stands =
@@ -155,7 +155,7 @@ module _ (r : Rooms) (f : ℕ) (m : Making) (a : Atom) (rest : List ℕ) (count 
 
 -- ---- in a slot
 
-module _ (r : Rooms) (f : ℕ) (m : Making) (t : Datum) (rest : List ℕ) (count : ℕ) (datum words map bytes elems labels : List ℕ) (k : SlotTask r f m t rest count datum words map bytes elems labels) where
+module _ {r : Rooms} {f : ℕ} {m : Making} {t : Datum} {rest : List ℕ} {count : ℕ} {datum words map bytes elems labels : List ℕ} (k : SlotTask r f m t rest count datum words map bytes elems labels) where
   slot_larger : Larger m (put t m).making
   slot_larger = put_larger t m (able_sized r f m k.able)
 
@@ -169,7 +169,7 @@ module _ (r : Rooms) (f : ℕ) (m : Making) (t : Datum) (rest : List ℕ) (count
   slot_kept : Kept r f (put t m)
   slot_kept = put_kept r f t m k.able slot_within
 
-  module _ (v : code_value.Value) (size count' : ℕ) (ws mp bs es ls : List ℕ) (d : Done r m t v size count' ws mp bs es ls) where
+  module _ {v : code_value.Value} {size count' : ℕ} {ws mp bs es ls : List ℕ} (d : Done r m t v size count' ws mp bs es ls) where
     -- a scalar's slot can be given
     scalar_used : (x : Value) → (put t m).value ≡ x → (c : Cell) → shape_of x ≡ new c → used_count (put t m).making.heap < f
     unfolding put_rules
@@ -200,8 +200,8 @@ module _ (r : Rooms) (f : ℕ) (m : Making) (t : Datum) (rest : List ℕ) (count
     in_slot_aside (slot s) k z = (refl, refl, refl, refl, refl)
     in_slot_aside (scalar x) k z = (refl, refl, (alloc_taken k.heap z).bytes, (alloc_taken k.heap z).elements, refl)
 
-    pub slot_done : (s : ℕ) (ws' mp' : List ℕ) → SlotMade r.slots (put t m).making.heap (value_of v) s ws' mp' → SlotDone r m t s size count' ws' mp' bs es ls
-    slot_done s ws' mp' q =
+    pub slot_done : {s : ℕ} {ws' mp' : List ℕ} → SlotMade r.slots (put t m).making.heap (value_of v) s ws' mp' → SlotDone r m t s size count' ws' mp' bs es ls
+    slot_done {s} {ws'} {mp'} q =
         let aside = in_slot_aside (put t m).value (put t m).making slot_larger.sized in
         let here : in_slot (put_as (value_of v) (making (put t m).making.heap [])) ≡ in_slot (put_as (put t m).value (making (put t m).making.heap [])) = ap (λ (x : Value). in_slot (put_as x (making (put t m).making.heap []))) d.value_is in
         record {
@@ -241,7 +241,7 @@ pair_length : (a d : Datum) → length (encode (tree.pair a d)) ≡ 1 + length (
 unfolding datum_rules basics Rattle.rules.specs.Nodes.nodes_rules
 pair_length a d = omega (arith, ap length (join_append write_node (nodes a) (nodes d)) ∙ length-append (encode a) (encode d))
 
-module _ (r : Rooms) (f : ℕ) (m : Making) (a d : Datum) (rest : List ℕ) (count : ℕ) (datum words map bytes elems labels : List ℕ) (k : Task r f m (tree.pair a d) rest count datum words map bytes elems labels) where
+module _ {r : Rooms} {f : ℕ} {m : Making} {a d : Datum} {rest : List ℕ} {count : ℕ} {datum words map bytes elems labels : List ℕ} (k : Task r f m (tree.pair a d) rest count datum words map bytes elems labels) where
   abbrev car : Put
   car = in_slot (put a m)
 
@@ -293,7 +293,7 @@ module _ (r : Rooms) (f : ℕ) (m : Making) (a d : Datum) (rest : List ℕ) (cou
         fits = pair_fits_car a d k.fits;
       }
 
-  module _ (s1 size1 count1 : ℕ) (ws mp bs es ls : List ℕ) (p : SlotDone r m a s1 size1 count1 ws mp bs es ls) where
+  module _ {s1 size1 count1 : ℕ} {ws mp bs es ls : List ℕ} (p : SlotDone r m a s1 size1 count1 ws mp bs es ls) where
     pub cdr_place : 1 + size1 ≤ length datum
     cdr_place = omega (arith, ap length datum_pair, length-append (encode a) (encode d ++ rest), p.size_is)
 
@@ -316,7 +316,7 @@ module _ (r : Rooms) (f : ℕ) (m : Making) (a d : Datum) (rest : List ℕ) (cou
           fits = pair_fits_cdr a d k.fits;
         }
 
-    module _ (s2 size2 count2 : ℕ) (ws' mp' bs' es' ls' : List ℕ) (q : SlotDone r car.making d s2 size2 count2 ws' mp' bs' es' ls') where
+    module _ {s2 size2 count2 : ℕ} {ws' mp' bs' es' ls' : List ℕ} (q : SlotDone r car.making d s2 size2 count2 ws' mp' bs' es' ls') where
       pub pair_open : Open r.slots cdr.making.heap ws' mp'
       unfolding put_rules
       pair_open =
@@ -340,9 +340,9 @@ module _ (r : Rooms) (f : ℕ) (m : Making) (a d : Datum) (rest : List ℕ) (cou
             q.size_is,
           )
 
-      pub pair_done : (s : ℕ) (ws'' mp'' : List ℕ) → CellMade r.slots cdr.making.heap (pair s1 s2) s ws'' mp'' → Done r m (tree.pair a d) (value.Slot s) (1 + size1 + size2) count2 ws'' mp'' bs' es' ls'
+      pub pair_done : {s : ℕ} {ws'' mp'' : List ℕ} → CellMade r.slots cdr.making.heap (pair s1 s2) s ws'' mp'' → Done r m (tree.pair a d) (value.Slot s) (1 + size1 + size2) count2 ws'' mp'' bs' es' ls'
       unfolding put_rules
-      pair_done s ws'' mp'' c =
+      pair_done {s} {ws''} {mp''} c =
           let t = alloc_taken cdr.making.heap ys_larger.sized in
           record {
             stands =
@@ -385,7 +385,7 @@ block_place h (suc n) =
       ap (λ (b : Bool). Rattle.laws.specs.Basics.choose b 0 (length h.elements)) (borrow.Author.Tests.ne_eqb (suc n) 0 (λ e. omega arith)),
     )
 
-module _ (r : Rooms) (f : ℕ) (m : Making) (ds : Data) (rest : List ℕ) (n : ℕ) (e : n ≡ how_many ds) (count : ℕ) (datum words map bytes elems labels : List ℕ) (k : Task r f m (tree.vector ds) rest count datum words map bytes elems labels) where
+module _ {r : Rooms} {f : ℕ} {m : Making} {ds : Data} {rest : List ℕ} {n : ℕ} (e : n ≡ how_many ds) {count : ℕ} {datum words map bytes elems labels : List ℕ} (k : Task r f m (tree.vector ds) rest count datum words map bytes elems labels) where
   abbrev blk : Rattle.rules.specs.Cells.Block
   blk = block_after m.heap.elements (how_many ds)
 
@@ -438,7 +438,7 @@ module _ (r : Rooms) (f : ℕ) (m : Making) (ds : Data) (rest : List ℕ) (n : �
   vector_some =
       omega (arith, ap length k.datum_is ∙ length-append (encode (tree.vector ds)) rest, vector_length ds)
 
-  module _ (ws : List ℕ) (place : ℕ) (v : Reserved words ws 5 n place) where
+  module _ {ws : List ℕ} {place : ℕ} (v : Reserved words ws 5 n place) where
     place_is : place ≡ blk.place
     place_is = reserve_place r.slots m.heap words k.stands.words_are n ws place v ∙ ap (λ (x : ℕ). (block_after m.heap.elements x).place) e
 
@@ -468,7 +468,7 @@ module _ (r : Rooms) (f : ℕ) (m : Making) (ds : Data) (rest : List ℕ) (n : �
           room = omega (arith, place_is, e, block_place m.heap (how_many ds));
         }
 
-    module _ (size count' : ℕ) (ws' mp bs es ls : List ℕ) (d : AllDone r start ds place size count' ws' mp bs es ls) where
+    module _ {size count' : ℕ} {ws' mp bs es ls : List ℕ} (d : AllDone r start ds place size count' ws' mp bs es ls) where
       stands_all : Stands r (put_all ds blk.place start) count' ws' mp bs es ls
       stands_all = subst (λ (x : ℕ). Stands r (put_all ds x start) count' ws' mp bs es ls) place_is d.stands
 
@@ -488,9 +488,9 @@ module _ (r : Rooms) (f : ℕ) (m : Making) (ds : Data) (rest : List ℕ) (n : �
       vector_sizes =
           omega (arith, ap length k.datum_is ∙ length-append (encode (tree.vector ds)) rest, vector_length ds, d.size_is)
 
-      pub vector_done : (s : ℕ) (ws'' mp'' : List ℕ) → CellMade r.slots (put_all ds blk.place start).heap (vector (block place n)) s ws'' mp'' → Done r m (tree.vector ds) (value.Slot s) (5 + size) count' ws'' mp'' bs es ls
+      pub vector_done : {s : ℕ} {ws'' mp'' : List ℕ} → CellMade r.slots (put_all ds blk.place start).heap (vector (block place n)) s ws'' mp'' → Done r m (tree.vector ds) (value.Slot s) (5 + size) count' ws'' mp'' bs es ls
       unfolding put_rules
-      vector_done s ws'' mp'' c =
+      vector_done {s} {ws''} {mp''} c =
           let t = alloc_taken (put_all ds blk.place start).heap e_larger.sized in
           let h = (put_all ds blk.place start).heap in
           record {
@@ -515,7 +515,7 @@ unfolding Rattle.rules.specs.Layout.layout_rules
 element_words n h k y =
     ap (λ (x : ℕ). (h.chunk ∷ capacity h ∷ length h.free ∷ length h.table ∷ length h.bytes ∷ x ∷ 1 ∷ 0 ∷ []) ++ join (Rattle.rules.specs.Layout.row_words h) (Rattle.laws.specs.Basics.rising 0 n)) (length-set h.elements k y)
 
-module _ (r : Rooms) (f : ℕ) (m : Making) (t : Datum) (rest : List ℕ) (place count : ℕ) (datum words map bytes elems labels : List ℕ) (k : ElementTask r f m t rest place count datum words map bytes elems labels) (v : code_value.Value) (size count' : ℕ) (ws mp bs es ls : List ℕ) (d : Done r m t v size count' ws mp bs es ls) where
+module _ {r : Rooms} {f : ℕ} {m : Making} {t : Datum} {rest : List ℕ} {place count : ℕ} {datum words map bytes elems labels : List ℕ} (k : ElementTask r f m t rest place count datum words map bytes elems labels) {v : code_value.Value} {size count' : ℕ} {ws mp bs es ls : List ℕ} (d : Done r m t v size count' ws mp bs es ls) where
   element_larger : Larger m (put t m).making
   element_larger = put_larger t m (able_sized r f m k.task.able)
 
@@ -533,8 +533,8 @@ module _ (r : Rooms) (f : ℕ) (m : Making) (t : Datum) (rest : List ℕ) (place
             ∙ filled_length (3 * r.elements) (join value_words (put t m).making.heap.elements) (omega (arith, elements_length (put t m).making.heap.elements, k.task.within.elements)),
       )
 
-  pub element_done : (es' : List ℕ) (x : code_change.ElementChange) → ElementStored es es' place v x → ElementDone r m t place size count' ws mp bs es' ls
-  element_done es' x q =
+  pub element_done : {es' : List ℕ} {x : code_change.ElementChange} → ElementStored es es' place v x → ElementDone r m t place size count' ws mp bs es' ls
+  element_done {es'} {x} q =
       record {
         stands =
             record {
@@ -569,7 +569,7 @@ pub record Going (r : Rooms) (f : ℕ) (m : Making) (ds : Data) (rest : List ℕ
   pub room : place + n ≤ length made.heap.elements
   pub inside : at ≤ length datum
 
-module _ (r : Rooms) (f : ℕ) (m : Making) (ds : Data) (rest : List ℕ) (place n count : ℕ) (datum words₀ map₀ bytes₀ elems₀ labels₀ : List ℕ) (k : AllTask r f m ds rest place n count datum words₀ map₀ bytes₀ elems₀ labels₀) where
+module _ {r : Rooms} {f : ℕ} {m : Making} {ds : Data} {rest : List ℕ} {place n count : ℕ} {datum words₀ map₀ bytes₀ elems₀ labels₀ : List ℕ} (k : AllTask r f m ds rest place n count datum words₀ map₀ bytes₀ elems₀ labels₀) where
   pub going_start : Going r f m ds rest place n datum 0 count 0 words₀ map₀ bytes₀ elems₀ labels₀
   going_start =
       record {
@@ -586,7 +586,7 @@ module _ (r : Rooms) (f : ℕ) (m : Making) (ds : Data) (rest : List ℕ) (place
         inside = omega arith;
       }
 
-  module _ (at known i : ℕ) (words map bytes elems labels : List ℕ) (g : Going r f m ds rest place n datum at known i words map bytes elems labels) where
+  module _ {at known i : ℕ} {words map bytes elems labels : List ℕ} (g : Going r f m ds rest place n datum at known i words map bytes elems labels) where
     -- the next datum, and those after it
     pub record Next : Type 0 where
       pub head : Datum
@@ -661,7 +661,7 @@ module _ (r : Rooms) (f : ℕ) (m : Making) (ds : Data) (rest : List ℕ) (place
       after_able =
           able_element r f here (put d g.made) (put_kept r f d g.made g.able (within_before stored_larger after_within)).able
 
-      module _ (size known' : ℕ) (ws mp bs es ls : List ℕ) (q : ElementDone r g.made d here size known' ws mp bs es ls) where
+      module _ {size known' : ℕ} {ws mp bs es ls : List ℕ} (q : ElementDone r g.made d here size known' ws mp bs es ls) where
         size_fits : at + size ≤ length datum
         size_fits =
             omega (
@@ -731,7 +731,7 @@ label_fits : (l : ℕ) (d : Datum) → datum_fits (tree.def l d) ≡ true → da
 unfolding datum_rules basics
 label_fits l d h = both_right (node_fits (Node.def l)) _ h
 
-module _ (r : Rooms) (f : ℕ) (m : Making) (l : ℕ) (d : Datum) (rest : List ℕ) (count : ℕ) (datum words map bytes elems labels : List ℕ) (k : Task r f m (tree.def l d) rest count datum words map bytes elems labels) where
+module _ {r : Rooms} {f : ℕ} {m : Making} {l : ℕ} {d : Datum} {rest : List ℕ} {count : ℕ} {datum words map bytes elems labels : List ℕ} (k : Task r f m (tree.def l d) rest count datum words map bytes elems labels) where
   abbrev g : Given
   g = begin_label l m
 
@@ -782,7 +782,7 @@ module _ (r : Rooms) (f : ℕ) (m : Making) (l : ℕ) (d : Datum) (rest : List �
         k.stands.labels_room,
       )
 
-  module _ (s : ℕ) (ws mp : List ℕ) (p : Popped (ready words) map s ws mp) (count' : ℕ) (ls : List ℕ) (q : Defined labels count l s ls count') where
+  module _ {s : ℕ} {ws mp : List ℕ} (p : Popped (ready words) map s ws mp) {count' : ℕ} {ls : List ℕ} (q : Defined labels count l s ls count') where
     given : GivenBy r.slots (alloc m.heap) s ws mp
     given = given_on r.slots m.heap words map label_open s ws mp p
 
@@ -806,7 +806,7 @@ module _ (r : Rooms) (f : ℕ) (m : Making) (l : ℕ) (d : Datum) (rest : List �
           fits = label_fits l d k.fits;
         }
 
-    module _ (v : code_value.Value) (size count'' : ℕ) (ws' mp' bs es ls' : List ℕ) (o : Done r begun d v size count'' ws' mp' bs es ls') where
+    module _ {v : code_value.Value} {size count'' : ℕ} {ws' mp' bs es ls' : List ℕ} (o : Done r begun d v size count'' ws' mp' bs es ls') where
       slot_small : s < capacity (put d begun).making.heap
       unfolding put_rules
       slot_small = omega (arith, given.slot_given, (taken r f m k.able label_used).slot_below, i_larger.capacity_grows)
@@ -828,9 +828,9 @@ module _ (r : Rooms) (f : ℕ) (m : Making) (l : ℕ) (d : Datum) (rest : List �
       label_sizes =
           omega (arith, ap length k.datum_is ∙ length-append (encode (tree.def l d)) rest, label_length l d, o.size_is)
 
-      pub label_done : (ws'' : List ℕ) → ws'' ≡ words_of r.slots (with_cell (put d begun).making.heap s (shown (put d begun).making.heap (value_of v))) → Done r m (tree.def l d) (value.Slot s) (5 + size) count'' ws'' mp' bs es ls'
+      pub label_done : {ws'' : List ℕ} → ws'' ≡ words_of r.slots (with_cell (put d begun).making.heap s (shown (put d begun).making.heap (value_of v))) → Done r m (tree.def l d) (value.Slot s) (5 + size) count'' ws'' mp' bs es ls'
       unfolding put_rules
-      label_done ws'' e =
+      label_done {ws''} e =
           let h = (put d begun).making.heap in
           record {
             stands =
@@ -851,30 +851,30 @@ module _ (r : Rooms) (f : ℕ) (m : Making) (l : ℕ) (d : Datum) (rest : List �
 pub tail_length : (l : List ℕ) (k : ℕ) → length (take (length l - k) (drop k l)) ≡ length l - k
 tail_length l k = ap length (to_end l k) ∙ length-drop k l
 
-pub task_part : (r : Rooms) (f : ℕ) (m : Making) (t : Datum) (rest : List ℕ) (count : ℕ) (l : List ℕ) (k : ℕ) (words map bytes elems labels : List ℕ) → Task r f m t rest count (drop k l) words map bytes elems labels → Task r f m t rest count (take (length l - k) (drop k l)) words map bytes elems labels
-task_part r f m t rest count l k words map bytes elems labels h =
+pub task_part : {r : Rooms} {f : ℕ} {m : Making} {t : Datum} {rest : List ℕ} {count : ℕ} (l : List ℕ) (k : ℕ) {words map bytes elems labels : List ℕ} → Task r f m t rest count (drop k l) words map bytes elems labels → Task r f m t rest count (take (length l - k) (drop k l)) words map bytes elems labels
+task_part {r} {f} {m} {t} {rest} {count} l k {words} {map} {bytes} {elems} {labels} h =
     subst (λ (x : List ℕ). Task r f m t rest count x words map bytes elems labels) (sym (to_end l k)) h
 
-pub slot_part : (r : Rooms) (f : ℕ) (m : Making) (t : Datum) (rest : List ℕ) (count : ℕ) (l : List ℕ) (k : ℕ) (words map bytes elems labels : List ℕ) → SlotTask r f m t rest count (drop k l) words map bytes elems labels → SlotTask r f m t rest count (take (length l - k) (drop k l)) words map bytes elems labels
-slot_part r f m t rest count l k words map bytes elems labels h =
+pub slot_part : {r : Rooms} {f : ℕ} {m : Making} {t : Datum} {rest : List ℕ} {count : ℕ} (l : List ℕ) (k : ℕ) {words map bytes elems labels : List ℕ} → SlotTask r f m t rest count (drop k l) words map bytes elems labels → SlotTask r f m t rest count (take (length l - k) (drop k l)) words map bytes elems labels
+slot_part {r} {f} {m} {t} {rest} {count} l k {words} {map} {bytes} {elems} {labels} h =
     subst (λ (x : List ℕ). SlotTask r f m t rest count x words map bytes elems labels) (sym (to_end l k)) h
 
-pub element_part : (r : Rooms) (f : ℕ) (m : Making) (t : Datum) (rest : List ℕ) (place count : ℕ) (l : List ℕ) (k : ℕ) (words map bytes elems labels : List ℕ) → ElementTask r f m t rest place count (drop k l) words map bytes elems labels → ElementTask r f m t rest place count (take (length l - k) (drop k l)) words map bytes elems labels
-element_part r f m t rest place count l k words map bytes elems labels h =
+pub element_part : {r : Rooms} {f : ℕ} {m : Making} {t : Datum} {rest : List ℕ} {place count : ℕ} (l : List ℕ) (k : ℕ) {words map bytes elems labels : List ℕ} → ElementTask r f m t rest place count (drop k l) words map bytes elems labels → ElementTask r f m t rest place count (take (length l - k) (drop k l)) words map bytes elems labels
+element_part {r} {f} {m} {t} {rest} {place} {count} l k {words} {map} {bytes} {elems} {labels} h =
     subst (λ (x : List ℕ). ElementTask r f m t rest place count x words map bytes elems labels) (sym (to_end l k)) h
 
-pub all_part : (r : Rooms) (f : ℕ) (m : Making) (ds : Data) (rest : List ℕ) (place n count : ℕ) (l : List ℕ) (k : ℕ) (words map bytes elems labels : List ℕ) → AllTask r f m ds rest place n count (drop k l) words map bytes elems labels → AllTask r f m ds rest place n count (take (length l - k) (drop k l)) words map bytes elems labels
-all_part r f m ds rest place n count l k words map bytes elems labels h =
+pub all_part : {r : Rooms} {f : ℕ} {m : Making} {ds : Data} {rest : List ℕ} {place n count : ℕ} (l : List ℕ) (k : ℕ) {words map bytes elems labels : List ℕ} → AllTask r f m ds rest place n count (drop k l) words map bytes elems labels → AllTask r f m ds rest place n count (take (length l - k) (drop k l)) words map bytes elems labels
+all_part {r} {f} {m} {ds} {rest} {place} {n} {count} l k {words} {map} {bytes} {elems} {labels} h =
     subst (λ (x : List ℕ). AllTask r f m ds rest place n count x words map bytes elems labels) (sym (to_end l k)) h
 
 -- the places of a vector's elements are small numbers: the lent list is longer
-pub going_place : (r : Rooms) (f : ℕ) (m : Making) (ds : Data) (rest : List ℕ) (place n : ℕ) (datum : List ℕ) (at known i : ℕ) (words map bytes elems labels : List ℕ) → Going r f m ds rest place n datum at known i words map bytes elems labels → place + n ≤ length elems
+pub all_places : {r : Rooms} {f : ℕ} {m : Making} {ds : Data} {rest : List ℕ} {place n count : ℕ} {datum words map bytes elems labels : List ℕ} → AllTask r f m ds rest place n count datum words map bytes elems labels → place + n ≤ length elems
 unfolding Rattle.rules.specs.Layout.layout_rules
-going_place r f m ds rest place n datum from known i words map bytes elems labels g =
-    let l = join value_words g.made.heap.elements in
+all_places {r} {f} {m} {ds} {rest} {place} {n} {count} {datum} {words} {map} {bytes} {elems} {labels} k =
+    let l = join value_words m.heap.elements in
     omega (
       arith,
-      g.room,
-      elements_length g.made.heap.elements,
-      ap length g.stands.elems_are ∙ length-append l (Rattle.laws.specs.Basics.zeros (3 * r.elements - length l)),
+      k.room,
+      elements_length m.heap.elements,
+      ap length k.stands.elems_are ∙ length-append l (Rattle.laws.specs.Basics.zeros (3 * r.elements - length l)),
     )

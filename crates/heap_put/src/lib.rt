@@ -11,68 +11,48 @@ ghost use Rattle.std.specs.Prelude.{◌≡◌, List, ℕ};
 ghost use Rattle.rules.specs.Datum.{Datum, Data, pair, vector, def, how_many};
 ghost use Rattle.rules.specs.Layout.{Rooms};
 ghost use Rattle.rules.specs.Put.{Making};
+ghost use Rattle.leaf_lists.specs.Lists.{SameLists};
 ghost use Rattle.heap_atoms.specs.Tasks.{Task, Done, SlotTask, SlotDone, ElementTask, ElementDone, AllTask, AllDone};
 
 use heap_atoms::{Put, Shape};
 use leaf_cells::{VCell, Value};
-
-// A datum that was put where a slot was wanted.
-#[derive(Clone, Copy)]
-pub struct Slotted {
-    pub slot: usize,
-    pub size: usize,
-    pub labels: usize,
-}
-
-// How far the elements of a vector have come: bytes of the datum taken, and labels.
-#[derive(Clone, Copy)]
-pub struct Progress {
-    pub size: usize,
-    pub labels: usize,
-}
+use leaf_lists::ListsMut;
 
 // Puts the datum at the start of what is lent.
 #[cycle(putting)]
 pub fn put_datum(
-    words: &mut [u64],
-    map: &mut [u8],
-    bytes: &mut [u8],
-    elems: &mut [u64],
+    heap: &mut ListsMut<'_>,
     labels: &mut [u64],
     count: usize,
     datum: &[u8],
-) -> Put
-    requires { (r : Rooms) × (f : ℕ) × (m : Making) × (t : Datum) × (rest : List ℕ) × Task r f m t rest count datum.now words.old map.old bytes.old elems.old labels.old }
-    ensures { (r : Rooms) (f : ℕ) (m : Making) (t : Datum) (rest : List ℕ) → Task r f m t rest count datum.now words.old map.old bytes.old elems.old labels.old → Done r m t result.value result.size result.labels words.new map.new bytes.new elems.new labels.new }
+) -> Put<Value>
+    requires { (r : Rooms) × (f : ℕ) × (m : Making) × (t : Datum) × (rest : List ℕ) × Task r f m t rest count datum.now heap.old.words.now heap.old.map.now heap.old.bytes.now heap.old.elems.now labels.old }
+    ensures same { SameLists heap.old heap.new }
+    ensures done { (r : Rooms) (f : ℕ) (m : Making) (t : Datum) (rest : List ℕ) → Task r f m t rest count datum.now heap.old.words.now heap.old.map.now heap.old.bytes.now heap.old.elems.now labels.old → Done r m t result.value result.size result.labels heap.new.words.now heap.new.map.now heap.new.bytes.now heap.new.elems.now labels.new }
 {
-    let shape = heap_atoms::shape_of(datum);
-    match shape {
-        Shape::Atom => heap_atoms::put_atom(words, map, bytes, labels, count, datum),
-        Shape::Pair => put_pair(words, map, bytes, elems, labels, count, datum),
-        Shape::Vector(n) => put_vector(words, map, bytes, elems, labels, count, datum, n),
-        Shape::Label(l) => put_label(words, map, bytes, elems, labels, count, datum, l),
+    match heap_atoms::shape_of(datum) {
+        Shape::Atom => heap_atoms::put_atom(heap.words, heap.map, heap.bytes, labels, count, datum),
+        Shape::Pair => put_pair(heap, labels, count, datum),
+        Shape::Vector(n) => put_vector(heap, labels, count, datum, n),
+        Shape::Label(l) => put_label(heap, labels, count, datum, l),
     }
 }
 
 // Puts the datum at the start of what is lent, in a slot.
 #[cycle(putting)]
 pub fn put_in_slot(
-    words: &mut [u64],
-    map: &mut [u8],
-    bytes: &mut [u8],
-    elems: &mut [u64],
+    heap: &mut ListsMut<'_>,
     labels: &mut [u64],
     count: usize,
     datum: &[u8],
-) -> Slotted
-    requires { (r : Rooms) × (f : ℕ) × (m : Making) × (t : Datum) × (rest : List ℕ) × SlotTask r f m t rest count datum.now words.old map.old bytes.old elems.old labels.old }
-    ensures { (r : Rooms) (f : ℕ) (m : Making) (t : Datum) (rest : List ℕ) → SlotTask r f m t rest count datum.now words.old map.old bytes.old elems.old labels.old → SlotDone r m t result.slot result.size result.labels words.new map.new bytes.new elems.new labels.new }
+) -> Put<usize>
+    requires { (r : Rooms) × (f : ℕ) × (m : Making) × (t : Datum) × (rest : List ℕ) × SlotTask r f m t rest count datum.now heap.old.words.now heap.old.map.now heap.old.bytes.now heap.old.elems.now labels.old }
+    ensures same { SameLists heap.old heap.new }
+    ensures done { (r : Rooms) (f : ℕ) (m : Making) (t : Datum) (rest : List ℕ) → SlotTask r f m t rest count datum.now heap.old.words.now heap.old.map.now heap.old.bytes.now heap.old.elems.now labels.old → SlotDone r m t result.value result.size result.labels heap.new.words.now heap.new.map.now heap.new.bytes.now heap.new.elems.now labels.new }
 {
-    let p = put_datum(words, map, bytes, elems, labels, count, datum);
-    let v = p.value;
-    let slot = heap_steps::in_slot(words, map, v);
-    Slotted {
-        slot,
+    let p = put_datum(heap, labels, count, datum);
+    Put {
+        value: heap_steps::in_slot(heap.words, heap.map, p.value),
         size: p.size,
         labels: p.labels,
     }
@@ -80,22 +60,15 @@ pub fn put_in_slot(
 
 // "a pair puts car, then cdr, then itself": what is left of the datum after the car is handed on as a part to the cdr's.
 #[cycle(putting)]
-fn put_pair(
-    words: &mut [u64],
-    map: &mut [u8],
-    bytes: &mut [u8],
-    elems: &mut [u64],
-    labels: &mut [u64],
-    count: usize,
-    datum: &[u8],
-) -> Put
-    requires { (r : Rooms) × (f : ℕ) × (m : Making) × (a : Datum) × (d : Datum) × (rest : List ℕ) × Task r f m (pair a d) rest count datum.now words.old map.old bytes.old elems.old labels.old }
-    ensures { (r : Rooms) (f : ℕ) (m : Making) (a : Datum) (d : Datum) (rest : List ℕ) → Task r f m (pair a d) rest count datum.now words.old map.old bytes.old elems.old labels.old → Done r m (pair a d) result.value result.size result.labels words.new map.new bytes.new elems.new labels.new }
+fn put_pair(heap: &mut ListsMut<'_>, labels: &mut [u64], count: usize, datum: &[u8]) -> Put<Value>
+    requires { (r : Rooms) × (f : ℕ) × (m : Making) × (a : Datum) × (d : Datum) × (rest : List ℕ) × Task r f m (pair a d) rest count datum.now heap.old.words.now heap.old.map.now heap.old.bytes.now heap.old.elems.now labels.old }
+    ensures same { SameLists heap.old heap.new }
+    ensures done { (r : Rooms) (f : ℕ) (m : Making) (a : Datum) (d : Datum) (rest : List ℕ) → Task r f m (pair a d) rest count datum.now heap.old.words.now heap.old.map.now heap.old.bytes.now heap.old.elems.now labels.old → Done r m (pair a d) result.value result.size result.labels heap.new.words.now heap.new.map.now heap.new.bytes.now heap.new.elems.now labels.new }
 {
-    let car = put_in_slot(words, map, bytes, elems, labels, count, &datum[1..]);
+    let car = put_in_slot(heap, labels, count, &datum[1..]);
     let next = 1 + car.size;
-    let cdr = put_in_slot(words, map, bytes, elems, labels, car.labels, &datum[next..]);
-    let s = heap_steps::new_cell(words, map, VCell::Pair(car.slot, cdr.slot));
+    let cdr = put_in_slot(heap, labels, car.labels, &datum[next..]);
+    let s = heap_steps::new_cell(heap.words, heap.map, VCell::Pair(car.value, cdr.value));
     Put {
         value: Value::Slot(s),
         size: next + cdr.size,
@@ -106,31 +79,19 @@ fn put_pair(
 // The block first, the elements in order, then the vector's slot.
 #[cycle(putting)]
 fn put_vector(
-    words: &mut [u64],
-    map: &mut [u8],
-    bytes: &mut [u8],
-    elems: &mut [u64],
+    heap: &mut ListsMut<'_>,
     labels: &mut [u64],
     count: usize,
     datum: &[u8],
     n: usize,
-) -> Put
-    requires { (r : Rooms) × (f : ℕ) × (m : Making) × (ds : Data) × (rest : List ℕ) × (e : n ≡ how_many ds) × Task r f m (vector ds) rest count datum.now words.old map.old bytes.old elems.old labels.old }
-    ensures { (r : Rooms) (f : ℕ) (m : Making) (ds : Data) (rest : List ℕ) (e : n ≡ how_many ds) → Task r f m (vector ds) rest count datum.now words.old map.old bytes.old elems.old labels.old → Done r m (vector ds) result.value result.size result.labels words.new map.new bytes.new elems.new labels.new }
+) -> Put<Value>
+    requires { (r : Rooms) × (f : ℕ) × (m : Making) × (ds : Data) × (rest : List ℕ) × (e : n ≡ how_many ds) × Task r f m (vector ds) rest count datum.now heap.old.words.now heap.old.map.now heap.old.bytes.now heap.old.elems.now labels.old }
+    ensures same { SameLists heap.old heap.new }
+    ensures done { (r : Rooms) (f : ℕ) (m : Making) (ds : Data) (rest : List ℕ) (e : n ≡ how_many ds) → Task r f m (vector ds) rest count datum.now heap.old.words.now heap.old.map.now heap.old.bytes.now heap.old.elems.now labels.old → Done r m (vector ds) result.value result.size result.labels heap.new.words.now heap.new.map.now heap.new.bytes.now heap.new.elems.now labels.new }
 {
-    let place = leaf_rooms::reserve_elements(words, n);
-    let done = put_elements(
-        words,
-        map,
-        bytes,
-        elems,
-        labels,
-        count,
-        &datum[5..],
-        place,
-        n,
-    );
-    let s = heap_steps::new_cell(words, map, VCell::Vector(place, n));
+    let place = leaf_rooms::reserve_elements(heap.words, n);
+    let done = put_elements(heap, labels, count, &datum[5..], place, n);
+    let s = heap_steps::new_cell(heap.words, heap.map, VCell::Vector(place, n));
     Put {
         value: Value::Slot(s),
         size: 5 + done.size,
@@ -138,41 +99,29 @@ fn put_vector(
     }
 }
 
-// Puts n data as the elements from a place on.
+// Puts n data as the elements from a place on. No value is left to give: they stand in the elements.
 #[cycle(putting)]
 fn put_elements(
-    words: &mut [u64],
-    map: &mut [u8],
-    bytes: &mut [u8],
-    elems: &mut [u64],
+    heap: &mut ListsMut<'_>,
     labels: &mut [u64],
     count: usize,
     datum: &[u8],
     place: usize,
     n: usize,
-) -> Progress
-    requires { (r : Rooms) × (f : ℕ) × (m : Making) × (ds : Data) × (rest : List ℕ) × AllTask r f m ds rest place n count datum.now words.old map.old bytes.old elems.old labels.old }
-    ensures { (r : Rooms) (f : ℕ) (m : Making) (ds : Data) (rest : List ℕ) → AllTask r f m ds rest place n count datum.now words.old map.old bytes.old elems.old labels.old → AllDone r m ds place result.size result.labels words.new map.new bytes.new elems.new labels.new }
+) -> Put<()>
+    requires { (r : Rooms) × (f : ℕ) × (m : Making) × (ds : Data) × (rest : List ℕ) × AllTask r f m ds rest place n count datum.now heap.old.words.now heap.old.map.now heap.old.bytes.now heap.old.elems.now labels.old }
+    ensures same { SameLists heap.old heap.new }
+    ensures done { (r : Rooms) (f : ℕ) (m : Making) (ds : Data) (rest : List ℕ) → AllTask r f m ds rest place n count datum.now heap.old.words.now heap.old.map.now heap.old.bytes.now heap.old.elems.now labels.old → AllDone r m ds place result.size result.labels heap.new.words.now heap.new.map.now heap.new.bytes.now heap.new.elems.now labels.new }
 {
     let mut at = 0;
     let mut known = count;
-    let mut i = 0;
-    while i < n {
-        let p = put_element(
-            words,
-            map,
-            bytes,
-            elems,
-            labels,
-            known,
-            &datum[at..],
-            place + i,
-        );
+    for i in 0..n {
+        let p = put_element(heap, labels, known, &datum[at..], place + i);
         at += p.size;
         known = p.labels;
-        i += 1;
     }
-    Progress {
+    Put {
+        value: (),
         size: at,
         labels: known,
     }
@@ -181,22 +130,20 @@ fn put_elements(
 // Puts a datum as the element at a place.
 #[cycle(putting)]
 fn put_element(
-    words: &mut [u64],
-    map: &mut [u8],
-    bytes: &mut [u8],
-    elems: &mut [u64],
+    heap: &mut ListsMut<'_>,
     labels: &mut [u64],
     count: usize,
     datum: &[u8],
     place: usize,
-) -> Progress
-    requires { (r : Rooms) × (f : ℕ) × (m : Making) × (t : Datum) × (rest : List ℕ) × ElementTask r f m t rest place count datum.now words.old map.old bytes.old elems.old labels.old }
-    ensures { (r : Rooms) (f : ℕ) (m : Making) (t : Datum) (rest : List ℕ) → ElementTask r f m t rest place count datum.now words.old map.old bytes.old elems.old labels.old → ElementDone r m t place result.size result.labels words.new map.new bytes.new elems.new labels.new }
+) -> Put<()>
+    requires { (r : Rooms) × (f : ℕ) × (m : Making) × (t : Datum) × (rest : List ℕ) × ElementTask r f m t rest place count datum.now heap.old.words.now heap.old.map.now heap.old.bytes.now heap.old.elems.now labels.old }
+    ensures same { SameLists heap.old heap.new }
+    ensures done { (r : Rooms) (f : ℕ) (m : Making) (t : Datum) (rest : List ℕ) → ElementTask r f m t rest place count datum.now heap.old.words.now heap.old.map.now heap.old.bytes.now heap.old.elems.now labels.old → ElementDone r m t place result.size result.labels heap.new.words.now heap.new.map.now heap.new.bytes.now heap.new.elems.now labels.new }
 {
-    let p = put_datum(words, map, bytes, elems, labels, count, datum);
-    let v = p.value;
-    leaf_cells::store_element(elems, place, v);
-    Progress {
+    let p = put_datum(heap, labels, count, datum);
+    leaf_cells::store_element(heap.elems, place, p.value);
+    Put {
+        value: (),
         size: p.size,
         labels: p.labels,
     }
@@ -205,23 +152,20 @@ fn put_element(
 // A slot first, then the inner datum, whose cell is copied into that slot as it stands then.
 #[cycle(putting)]
 fn put_label(
-    words: &mut [u64],
-    map: &mut [u8],
-    bytes: &mut [u8],
-    elems: &mut [u64],
+    heap: &mut ListsMut<'_>,
     labels: &mut [u64],
     count: usize,
     datum: &[u8],
     l: u64,
-) -> Put
-    requires { (r : Rooms) × (f : ℕ) × (m : Making) × (d : Datum) × (rest : List ℕ) × Task r f m (def l d) rest count datum.now words.old map.old bytes.old elems.old labels.old }
-    ensures { (r : Rooms) (f : ℕ) (m : Making) (d : Datum) (rest : List ℕ) → Task r f m (def l d) rest count datum.now words.old map.old bytes.old elems.old labels.old → Done r m (def l d) result.value result.size result.labels words.new map.new bytes.new elems.new labels.new }
+) -> Put<Value>
+    requires { (r : Rooms) × (f : ℕ) × (m : Making) × (d : Datum) × (rest : List ℕ) × Task r f m (def l d) rest count datum.now heap.old.words.now heap.old.map.now heap.old.bytes.now heap.old.elems.now labels.old }
+    ensures same { SameLists heap.old heap.new }
+    ensures done { (r : Rooms) (f : ℕ) (m : Making) (d : Datum) (rest : List ℕ) → Task r f m (def l d) rest count datum.now heap.old.words.now heap.old.map.now heap.old.bytes.now heap.old.elems.now labels.old → Done r m (def l d) result.value result.size result.labels heap.new.words.now heap.new.map.now heap.new.bytes.now heap.new.elems.now labels.new }
 {
-    let slot = leaf_free::alloc(words, map);
+    let slot = leaf_free::alloc(heap.words, heap.map);
     let known = heap_labels::define(labels, count, l, slot);
-    let p = put_datum(words, map, bytes, elems, labels, known, &datum[5..]);
-    let v = p.value;
-    heap_steps::copy_cell(words, slot, v);
+    let p = put_datum(heap, labels, known, &datum[5..]);
+    heap_steps::copy_cell(heap.words, slot, p.value);
     Put {
         value: Value::Slot(slot),
         size: 5 + p.size,

@@ -3,8 +3,8 @@
 use mathlib.Core.Path.{◌≡◌, refl, sym, ap, ◌∙◌, subst}
 use mathlib.Core.Bool.{Bool, true, false, not}
 use mathlib.Core.List.{List, [], ◌∷◌, append-nil}
-use mathlib.Core.Option.{Option, none, some}
-use Prim.Native.Nat.{ℕ, ◌+◌, ◌-◌, ◌/◌, ◌≤◌, ◌<◌}
+use mathlib.Core.Option.{Option, some}
+use Prim.Native.Nat.{ℕ, ◌+◌, ◌-◌, ◌/◌, ◌≤◌}
 use native.Mathlib.Omega.{arith}
 use borrow.Author.Tests.{lt-ltb, ltb-false, leb-true}
 use lib.Dec.{leb, ltb}
@@ -32,25 +32,25 @@ use Rattle.leaf_free.proofs.SoundGrowing.{sound_growing}
 use Rattle.heap_check.proofs.Answers.{Accepted, accepted as passes}
 use Rattle.heap_tally.specs.Pass.{limits}
 use Rattle.heap_check.specs.Verdict.{verdict, checked_of}
-use Rattle.heap_check.specs.declared.Checked.{Checked}
-use Rattle.heap_check.specs.declared.Checked.TheVariants as check
-use Rattle.leaf_nodes.specs.declared.Fault.{Fault}
-use Rattle.leaf_nodes.specs.Reads.{fault_of}
+use Rattle.std.specs.Prelude.{Result, Ok, Err}
+use Rattle.std.proofs.Common.{Fits as FitsIn, w8}
 use Rattle.leaf_nodes.proofs.Laws.{all_small}
-use Rattle.heap_needs.specs.declared.Lack.{Lack}
-use Rattle.heap_needs.specs.declared.Lack.TheVariants.{Nothing, Slots, Room}
+use Rattle.refusals.specs.declared.Refusal as told_refusal
+use Rattle.refusals.specs.Told.{refusal_of, answer_of}
 use Rattle.heap_needs.specs.declared.Needed as code
 use Rattle.heap_needs.specs.Needs.{need, no_needs}
 use Rattle.heap_needs.specs.Pass.{known_in, needed, DatumThere}
 use Rattle.heap_needs.specs.Pass as pass
-use Rattle.heap_needs.specs.Lacks.{first_short, short_of, refusal_of, Measured}
+use Rattle.heap_needs.specs.Lacks.{first_short, short_of, Measured}
 use Rattle.heap_needs.proofs.LackLaws.{put_short, unless_short, lent_good, measured_good}
 use Rattle.heap_labels.specs.Labels.{labels_in}
 use Rattle.heap_atoms.specs.Makings.{Stands, Able, Within}
 use Rattle.heap_atoms.specs.Tasks.{SlotTask, SlotDone}
-use Rattle.heap_put_whole.specs.declared.Answer as whole
-use Rattle.heap_put_whole.specs.declared.Answer.TheVariants as answer
-use Rattle.heap_put_whole.specs.Whole.{answer_of, put_behind, Ready, Outcome}
+use Rattle.heap_put_whole.specs.Whole.{put_behind, Ready, Outcome}
+
+-- an answer of a step that gives nothing
+abbrev Passed : Type 0
+Passed = Result (Unit {0}) told_refusal.Refusal
 
 -- ---- what a sound heap gives
 
@@ -73,18 +73,21 @@ module _ (l : Lent) (scratch : List ℕ) (k : Ready l scratch) where
   fits : Fits r h
   fits = sound_fits l sound_clauses
 
-  pub needs_open : pass.Lent l.words l.bytes
+  -- n: the same lists, lent to be read
+
+  pub needs_open : (n : Lent) → n ≡ l → pass.Lent n.words n.bytes
   unfolding layout_rules
-  needs_open =
-      subst (λ (x : Lent). pass.Lent x.words x.bytes) again
+  needs_open n e =
+      subst (λ (x : Lent). pass.Lent x.words x.bytes) (again ∙ sym e)
       (lent_good r.slots h r.bytes whole_heap fits.slots fits.bytes)
 
-  pub short_open : Measured l.words (length l.bytes) (length l.elems / 3)
+  pub short_open : (n : Lent) → n ≡ l → Measured n.words (length n.bytes) (length n.elems / 3)
   unfolding layout_rules
-  short_open =
+  short_open n e =
       let b = bounds l sound_clauses in
-      subst (λ (x : Lent). Measured x.words (length l.bytes) (length l.elems / 3)) again
-      (measured_good r.slots h r.bytes r.elements whole_heap b.chunk_most b.most fits.slots fits.bytes fits.elements)
+      subst (λ (x : Lent). Measured x.words (length x.bytes) (length x.elems / 3)) (sym e)
+      (subst (λ (x : Lent). Measured x.words (length l.bytes) (length l.elems / 3)) again
+      (measured_good r.slots h r.bytes r.elements whole_heap b.chunk_most b.most fits.slots fits.bytes fits.elements))
 
   -- ---- a datum that passed the check
 
@@ -108,14 +111,14 @@ module _ (l : Lent) (scratch : List ℕ) (k : Ready l scratch) where
     pub there : DatumThere datum
     there = record { tree = d; written = sym a.written; fits = a.fits; few = few_nodes }
 
-    abbrev lacking : Lack
+    abbrev lacking : Passed
     lacking =
         first_short (slots_short r.slots h after) (room_short r.bytes after.bytes) (room_short r.elements after.elements)
 
     -- the tests of the code are the rules'
-    pub told : (n : code.Needed) (x : Lack) → ((t : Datum) → datum ≡ encode t → datum_fits t ≡ true → n ≡ needed (need (known_in l.words l.bytes) true t no_needs)) → x ≡ short_of l.words n (length l.bytes) (length l.elems / 3) → x ≡ lacking
+    tests : (n : code.Needed) (x : Passed) → ((t : Datum) → datum ≡ encode t → datum_fits t ≡ true → n ≡ needed (need (known_in l.words l.bytes) true t no_needs)) → x ≡ short_of l.words n (length l.bytes) (length l.elems / 3) → x ≡ lacking
     unfolding layout_rules
-    told n x e s =
+    tests n x e s =
         s
         ∙ ap (λ (m : code.Needed). short_of l.words m (length l.bytes) (length l.elems / 3)) (e d (sym a.written) a.fits)
         ∙ subst
@@ -123,11 +126,16 @@ module _ (l : Lent) (scratch : List ℕ) (k : Ready l scratch) where
         again
         (put_short r.slots r.bytes r.bytes r.elements h d whole_heap fits.slots a.fits nodes_within a.labels)
 
-    -- what the put call comes to
-    abbrev ended : Option Refusal → Left ℕ
-    ended o = elim o [ none ↦ left (accepted (slot_in (put_datum d h))) (lent_of r after) (cleared scratch) | some e ↦ left (refused e) l (cleared scratch) ]
+    pub told : (n : Lent) → n ≡ l → (o : code.Needed) (x : Passed) → ((t : Datum) → datum ≡ encode t → datum_fits t ≡ true → o ≡ needed (need (known_in n.words n.bytes) true t no_needs)) → x ≡ short_of n.words o (length n.bytes) (length n.elems / 3) → x ≡ lacking
+    told n same o x =
+        subst (λ (y : Lent). ((t : Datum) → datum ≡ encode t → datum_fits t ≡ true → o ≡ needed (need (known_in y.words y.bytes) true t no_needs)) → x ≡ short_of y.words o (length y.bytes) (length y.elems / 3) → x ≡ lacking)
+        (sym same) (tests o x)
 
-    behind : put_behind l scratch datum ≡ ended (refusal_of lacking)
+    -- what the put call comes to
+    abbrev ended : Passed → Left ℕ
+    ended o = elim o [ Ok u ↦ left (accepted (slot_in (put_datum d h))) (lent_of r after) (cleared scratch) | Err e ↦ left (refused (refusal_of e)) l (cleared scratch) ]
+
+    behind : put_behind l scratch datum ≡ ended lacking
     unfolding put_behind put_tree refusals
     behind =
         ap (λ (p : Parse). elim p as (λ p. Left ℕ) [ good t ↦ put_tree l scratch h t | bad f n ↦ left (refused (malformed f n)) l (cleared scratch) ]) a.parses
@@ -143,11 +151,9 @@ module _ (l : Lent) (scratch : List ℕ) (k : Ready l scratch) where
         (λ e. left (refused e) l (cleared scratch)))
         ∙ unless_short (slots_short r.slots h after) (room_short r.bytes after.bytes) (room_short r.elements after.elements) _ _
 
-    pub no_slots_left : (x : Lack) → x ≡ Slots → x ≡ lacking → Outcome l scratch datum answer.NoSlots l
-    no_slots_left x e t = record { is = ap (λ (y : Lack). ended (refusal_of y)) (sym e ∙ t) ∙ sym behind }
-
-    pub no_room_left : (x : Lack) → x ≡ Room → x ≡ lacking → Outcome l scratch datum answer.NoRoom l
-    no_room_left x e t = record { is = ap (λ (y : Lack). ended (refusal_of y)) (sym e ∙ t) ∙ sym behind }
+    pub lack_left : (x : Passed) (e : told_refusal.Refusal) → x ≡ Err e → x ≡ lacking → {y : Result ℕ told_refusal.Refusal} → y ≡ Err e → Outcome l scratch datum y l
+    lack_left x e p t q =
+        subst (λ (y : Result ℕ told_refusal.Refusal). Outcome l scratch datum y l) (sym q) (record { is = ap ended (sym p ∙ t) ∙ sym behind })
 
     -- ---- nothing is lacking
 
@@ -162,10 +168,10 @@ module _ (l : Lent) (scratch : List ℕ) (k : Ready l scratch) where
       bytes : room_short r.bytes after.bytes ≡ false
       elements : room_short r.elements after.elements ≡ false
 
-    enough : Nothing ≡ lacking → Enough
+    enough : Ok tt ≡ lacking → Enough
     enough e = go (slots_short r.slots h after) (room_short r.bytes after.bytes) (room_short r.elements after.elements) refl refl refl e
       where
-        go : (x y z : Bool) → slots_short r.slots h after ≡ x → room_short r.bytes after.bytes ≡ y → room_short r.elements after.elements ≡ z → Nothing ≡ first_short x y z → Enough
+        go : (x y z : Bool) → slots_short r.slots h after ≡ x → room_short r.bytes after.bytes ≡ y → room_short r.elements after.elements ≡ z → Ok tt ≡ first_short x y z → Enough
         go true y z p q s n = let w : ◌≡◌ {A = ℕ} 0 1 = cc in absurd (omega arith)
         go false true z p q s n = let w : ◌≡◌ {A = ℕ} 0 1 = cc in absurd (omega arith)
         go false false true p q s n = let w : ◌≡◌ {A = ℕ} 0 1 = cc in absurd (omega arith)
@@ -213,7 +219,7 @@ module _ (l : Lent) (scratch : List ℕ) (k : Ready l scratch) where
           labels = put_labels d h a.within a.labels;
         }
 
-    pub task : (x : Lack) → x ≡ Nothing → x ≡ lacking → SlotTask r limit begun d [] 0 datum l.words l.map l.bytes l.elems scratch
+    pub task : (x : Passed) → x ≡ Ok tt → x ≡ lacking → SlotTask r limit begun d [] 0 datum l.words l.map l.bytes l.elems scratch
     unfolding in_slot put_datum
     task x e t =
         record {
@@ -224,7 +230,7 @@ module _ (l : Lent) (scratch : List ℕ) (k : Ready l scratch) where
           fits = a.fits;
         }
 
-    pub slot_left : (x : Lack) → x ≡ Nothing → x ≡ lacking → (slot size count : ℕ) (words map bytes elems labels : List ℕ) → SlotDone r begun d slot size count words map bytes elems labels → Outcome l scratch datum (answer.Slot slot) (record { words = words; map = map; bytes = bytes; elems = elems })
+    pub slot_left : (x : Passed) → x ≡ Ok tt → x ≡ lacking → (slot size count : ℕ) (words map bytes elems labels : List ℕ) → SlotDone r begun d slot size count words map bytes elems labels → Outcome l scratch datum (Ok slot) (record { words = words; map = map; bytes = bytes; elems = elems })
     unfolding layout_rules put_rules
     slot_left x e t slot size count words map bytes elems labels s =
         record {
@@ -238,13 +244,13 @@ module _ (l : Lent) (scratch : List ℕ) (k : Ready l scratch) where
                 elems = s.stands.elems_are i;
               })
               (cleared scratch))
-              ∙ ap (λ (y : Lack). ended (refusal_of y)) (sym e ∙ t)
+              ∙ ap ended (sym e ∙ t)
               ∙ sym behind;
         }
 
 -- ---- a datum that did not pass
 
-module _ (l : Lent) (scratch datum : List ℕ) (c : Checked) (is : checked_of c ≡ verdict datum) where
+module _ (l : Lent) (scratch datum : List ℕ) (c : Passed) (is : checked_of c ≡ verdict datum) where
   abbrev refuse : Refusal → Left ℕ
   refuse e = left (refused e) l (cleared scratch)
 
@@ -277,21 +283,16 @@ module _ (l : Lent) (scratch datum : List ℕ) (c : Checked) (is : checked_of c 
       go (bad f n) z = ap refuse (sym (some_value z))
 
   -- a datum that passed
-  pub passed : ((i : ℕ) → get_or datum i 0 < 256) → c ≡ check.Good → Accepted datum
+  pub passed : ((i : ℕ) → FitsIn w8 (get_or datum i 0)) → c ≡ Ok tt → Accepted datum
   unfolding nodes_rules basics
-  passed small e = passes datum c (all_small datum small) is e
+  passed small e = passes datum c (all_small datum (λ i. omega (arith, small i))) is e
 
-  pub malformed_left : (f : Fault) (n : ℕ) → c ≡ check.Malformed f n → Outcome l scratch datum (answer.Malformed f n) l
-  malformed_left f n e = record { is = stopped (malformed (fault_of f) n) (ap checked_of e) }
-
-  pub over_left : c ≡ check.OverLimit → Outcome l scratch datum answer.OverLimit l
-  over_left e = record { is = stopped over_limit (ap checked_of e) }
-
-  pub early_left : c ≡ check.EarlyLabel → Outcome l scratch datum answer.EarlyLabel l
-  early_left e = record { is = stopped early_label (ap checked_of e) }
+  pub refused_left : (e : told_refusal.Refusal) → c ≡ Err e → {y : Result ℕ told_refusal.Refusal} → y ≡ Err e → Outcome l scratch datum y l
+  refused_left e q p =
+      subst (λ (y : Result ℕ told_refusal.Refusal). Outcome l scratch datum y l) (sym p) (record { is = stopped (refusal_of e) (ap checked_of q) })
 
 -- the scratch cleared ends the call
-pub cleared_left : (l after : Lent) (scratch dirty clean datum : List ℕ) (r : whole.Answer) → Outcome l scratch datum r after → clean ≡ zeros (length dirty) → length dirty ≡ length scratch → left (answer_of r) after clean ≡ put_behind l scratch datum
+pub cleared_left : (l after : Lent) (scratch dirty clean datum : List ℕ) (r : Result ℕ told_refusal.Refusal) → Outcome l scratch datum r after → clean ≡ zeros (length dirty) → length dirty ≡ length scratch → left (answer_of r) after clean ≡ put_behind l scratch datum
 unfolding cleared
 cleared_left l after scratch dirty clean datum r o e n =
     ap (λ (s : List ℕ). left (answer_of r) after s) (e ∙ ap zeros n) ∙ o.is

@@ -1,25 +1,15 @@
 -- What a put behind the door's tests answers and leaves. Document 01, "What a caller is told", rows 11 to 17. Assumes
 -- nothing.
-use Rattle.std.specs.Prelude.{◌≡◌, true, List, ℕ, ◌≤◌, length}
+use Rattle.std.specs.Prelude.{◌≡◌, true, List, ℕ, ◌≤◌, length, Result}
 use Rattle.rules.specs.Numbers.{scratch_words}
-use Rattle.rules.specs.Refusals.{Answer, accepted, refused, malformed, over_limit, early_label, no_slots, no_room}
+use Rattle.rules.specs.Refusals.{refused, malformed}
 use Rattle.rules.specs.Datum.{good, bad, parse}
 use Rattle.rules.specs.Heap.{capacity}
 use Rattle.rules.specs.Layout.{Lent, heap_of}
 use Rattle.rules.specs.Sound.{sound}
 use Rattle.rules.specs.Calls.{Left, left, cleared, put_tree}
-use Rattle.leaf_nodes.specs.Reads.{fault_of}
-use Rattle.heap_put_whole.specs.declared.Answer as code
-use Rattle.heap_put_whole.specs.declared.Answer.TheVariants.{Slot, Malformed, OverLimit, EarlyLabel, NoSlots, NoRoom}
-
--- the rules' answer of each case
-abbrev pub answer_of : code.Answer → Answer ℕ
-answer_of (Slot s) = accepted s
-answer_of (Malformed f n) = refused (malformed (fault_of f) n)
-answer_of OverLimit = refused over_limit
-answer_of EarlyLabel = refused early_label
-answer_of NoSlots = refused no_slots
-answer_of NoRoom = refused no_room
+use Rattle.refusals.specs.declared.Refusal.{Refusal}
+use Rattle.refusals.specs.Told.{answer_of}
 
 -- the rules' put call past 20 and 19
 unfoldable pub put_behind : Lent → List ℕ → List ℕ → Left ℕ
@@ -32,5 +22,5 @@ pub record Ready (l : Lent) (scratch : List ℕ) : Type 0 where
   pub room : scratch_words (capacity (heap_of l)) ≤ length scratch
 
 -- the answer and the lists that the put leaves, before the scratch is cleared
-pub record Outcome (l : Lent) (scratch datum : List ℕ) (r : code.Answer) (after : Lent) : Type 0 where
+pub record Outcome (l : Lent) (scratch datum : List ℕ) (r : Result ℕ Refusal) (after : Lent) : Type 0 where
   pub is : left (answer_of r) after (cleared scratch) ≡ put_behind l scratch datum

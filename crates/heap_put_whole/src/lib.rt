@@ -5,80 +5,45 @@
 
 ghost use Rattle.std.specs.Prelude.{◌≡◌};
 ghost use Rattle.rules.specs.Calls.{left};
-ghost use Rattle.heap_sound_rows.specs.Rows.{lists};
+ghost use Rattle.leaf_lists.specs.Lists.{held, SameLists};
 ghost use Rattle.heap_check.proofs.Answers.{Accepted};
-ghost use Rattle.heap_put_whole.specs.Whole.{answer_of, put_behind, Ready, Outcome};
+ghost use Rattle.refusals.specs.Told.{answer_of};
+ghost use Rattle.heap_put_whole.specs.Whole.{put_behind, Ready, Outcome};
 
-// What a put answers: the datum's slot, or the refusal.
-#[derive(Clone, Copy)]
-pub enum Answer {
-    Slot(usize),
-    Malformed(leaf_nodes::Fault, usize),
-    OverLimit,
-    EarlyLabel,
-    NoSlots,
-    NoRoom,
-}
+use leaf_lists::ListsMut;
+use refusals::Refusal;
 
 // Puts a datum that passed the check, if what it needs is there.
-fn put_checked(
-    words: &mut [u64],
-    map: &mut [u8],
-    bytes: &mut [u8],
-    elems: &mut [u64],
-    scratch: &mut [u64],
-    datum: &[u8],
-) -> Answer
-    requires ready { Ready (lists words.old map.old bytes.old elems.old) scratch.old }
+fn put_checked(heap: &mut ListsMut<'_>, scratch: &mut [u64], datum: &[u8]) -> Result<usize, Refusal>
+    requires ready { Ready (held heap.old) scratch.old }
     requires accepted { Accepted datum.now }
-    ensures { Outcome (lists words.old map.old bytes.old elems.old) scratch.old datum.now result (lists words.new map.new bytes.new elems.new) }
+    ensures same { SameLists heap.old heap.new }
+    ensures outcome { Outcome (held heap.old) scratch.old datum.now result (held heap.new) }
 {
-    let needed = heap_needs::needs(words, bytes, datum);
-    let lack = heap_needs::short(words, needed, bytes.len(), elems.len() / 3);
-    match lack {
-        heap_needs::Lack::Nothing => {
-            let p = heap_put::put_in_slot(words, map, bytes, elems, scratch, 0, datum);
-            Answer::Slot(p.slot)
-        }
-        heap_needs::Lack::Slots => Answer::NoSlots,
-        heap_needs::Lack::Room => Answer::NoRoom,
-    }
+    let lent = heap.lists();
+    let needed = heap_needs::needs(lent.words, lent.bytes, datum);
+    heap_needs::short(lent.words, needed, lent.bytes.len(), lent.elems.len() / 3)?;
+    let p = heap_put::put_in_slot(heap, scratch, 0, datum);
+    Ok(p.value)
 }
 
 // Puts a datum that may be anything.
-fn put_any(
-    words: &mut [u64],
-    map: &mut [u8],
-    bytes: &mut [u8],
-    elems: &mut [u64],
-    scratch: &mut [u64],
-    datum: &[u8],
-) -> Answer
-    requires { Ready (lists words.old map.old bytes.old elems.old) scratch.old }
-    ensures { Outcome (lists words.old map.old bytes.old elems.old) scratch.old datum.now result (lists words.new map.new bytes.new elems.new) }
+fn put_any(heap: &mut ListsMut<'_>, scratch: &mut [u64], datum: &[u8]) -> Result<usize, Refusal>
+    requires { Ready (held heap.old) scratch.old }
+    ensures same { SameLists heap.old heap.new }
+    ensures outcome { Outcome (held heap.old) scratch.old datum.now result (held heap.new) }
 {
-    let c = heap_check::check(datum);
-    match c {
-        heap_check::Checked::Good => put_checked(words, map, bytes, elems, scratch, datum),
-        heap_check::Checked::Malformed(f, n) => Answer::Malformed(f, n),
-        heap_check::Checked::OverLimit => Answer::OverLimit,
-        heap_check::Checked::EarlyLabel => Answer::EarlyLabel,
-    }
+    heap_check::check(datum)?;
+    put_checked(heap, scratch, datum)
 }
 
-// The put of a lent datum into a sound heap, with scratch of the length that the formula says.
-pub fn put(
-    words: &mut [u64],
-    map: &mut [u8],
-    bytes: &mut [u8],
-    elems: &mut [u64],
-    scratch: &mut [u64],
-    datum: &[u8],
-) -> Answer
-    requires { Ready (lists words.old map.old bytes.old elems.old) scratch.old }
-    ensures { left (answer_of result) (lists words.new map.new bytes.new elems.new) scratch.new ≡ put_behind (lists words.old map.old bytes.old elems.old) scratch.old datum.now }
+// The put of a lent datum into a sound heap, with scratch of the length that the formula says. It answers the datum's slot.
+pub fn put(heap: &mut ListsMut<'_>, scratch: &mut [u64], datum: &[u8]) -> Result<usize, Refusal>
+    requires { Ready (held heap.old) scratch.old }
+    ensures same { SameLists heap.old heap.new }
+    ensures put { left (answer_of result) (held heap.new) scratch.new ≡ put_behind (held heap.old) scratch.old datum.now }
 {
-    let a = put_any(words, map, bytes, elems, scratch, datum);
+    let answer = put_any(heap, scratch, datum);
     leaf_clear::clear_words(scratch);
-    a
+    answer
 }

@@ -4,6 +4,8 @@ use mathlib.Core.Path.{◌≡◌, refl, sym, ap, ◌∙◌, subst}
 use mathlib.Core.Bool.{Bool, true, false}
 use mathlib.Core.List.{List, [], ◌∷◌, ◌++◌}
 use mathlib.Core.Option.{Option, none, some}
+use Rattle.std.specs.Prelude as code
+use Rattle.std.specs.Prelude.{Some, None, Result, Ok, Err}
 use Prim.Native.Nat.{ℕ, ◌*◌, ◌/◌, ◌%◌, ◌≤◌, ◌<◌}
 use native.Mathlib.Omega.{arith}
 use borrow.Author.Tests.{le-leb, lt-leb, lt-ltb, le-ltb, ne_eqb}
@@ -11,7 +13,7 @@ use lib.Dec.{eqb, ltb}
 use lib.ListN.{length, get_or, drop}
 use lib.Seq.{sets-eq}
 use Rattle.laws.specs.Basics.{choose, member, zeros, basics}
-use Rattle.laws.proofs.Lists.{get_or_zeros, length-zeros, no_elements}
+use Rattle.laws.proofs.Lists.{get_or_zeros, length-zeros}
 use Rattle.rules.specs.Numbers.{most_nodes, most_labels, scratch_words}
 use Rattle.rules.specs.Refusals.{accepted, refused, Refusal, over_limit, no_such_slot, short_output, unless, ◌⇒◌, refusals}
 use Rattle.rules.specs.Cells.{Value, slot, scalar}
@@ -33,8 +35,8 @@ use Rattle.heap_build.specs.Drafts.{Draft, draft}
 use Rattle.heap_build.specs.Tasks.{LeftBy}
 use Rattle.heap_build.proofs.DraftLaws.{drawn, draft_drawn}
 use Rattle.heap_build.proofs.StepLaws.{gave_up, On, went_on}
-use Rattle.heap_read.specs.declared.Answer as code
-use Rattle.heap_read.specs.declared.Answer.TheVariants.{Length, OverLimit, ShortOutput}
+use Rattle.refusals.specs.declared.Refusal as code_refusal
+use Rattle.refusals.specs.declared.Refusal.TheVariants.{OverLimit, ShortOutput}
 use Rattle.heap_read.specs.Whole.{read_left, Held, BlankTask, MarkedTask, blank_draft, ValueTask, ValueDone, told, Answered}
 
 -- ---- the reading by the draft
@@ -90,30 +92,26 @@ module _ (h : Heap) (v : Value) where
 
 -- ---- the two passes
 
--- a part of no bytes, put back before the rest
-pub none_before : (part l : List ℕ) → length part ≡ 0 → part ++ l ≡ l
-none_before part l e = ap (λ (x : List ℕ). x ++ l) (no_elements part e)
-
 module _ (r : Rooms) (h : Heap) (v : Value) (words bytes elems marks out : List ℕ) (t : MarkedTask r h v words bytes elems marks) where
   pub count_task : ValueTask r h (labels_for h v) v words bytes elems marks
   count_task = record { held = t.held; marked = t.marked }
 
-  module _ (start : List ℕ) (p : Page) (marks₁ part : List ℕ) (d : ValueDone h (labels_for h v) v start p marks₁ part) where
-    pub over_answer : p.over ≡ true → (after : List ℕ) → after ≡ out → Answered h v out OverLimit after
+  module _ (start : List ℕ) (counted : code.Option Page) (marks₁ part : List ℕ) (d : ValueDone h (labels_for h v) v start counted marks₁ part) where
+    pub over_answer : counted ≡ None → (after : List ℕ) → after ≡ out → Answered h v out (Err OverLimit) after
     unfolding told
     over_answer e after same =
         record {
           by_reading =
-              subst (λ (o : Option Datum). told o out OverLimit after)
+              subst (λ (o : Option Datum). told o out (Err OverLimit) after)
               (sym
               (reading_none h v t.few
-              (gave_up (labels_for h v) start most_nodes (draft most_nodes h (labels_for h v) v blank_draft) p marks₁ part d.left e)))
+              (gave_up (labels_for h v) start most_nodes (draft most_nodes h (labels_for h v) v blank_draft) counted marks₁ part d.left e)))
               (refl, same);
         }
 
-    module _ (on : p.over ≡ false) where
-      pass : On (labels_for h v) start most_nodes (draft most_nodes h (labels_for h v) v blank_draft) p marks₁ part d.left
-      pass = went_on (labels_for h v) start most_nodes (draft most_nodes h (labels_for h v) v blank_draft) p marks₁ part d.left on
+    module _ (p : Page) (on : counted ≡ Some p) where
+      pass : On (labels_for h v) start most_nodes (draft most_nodes h (labels_for h v) v blank_draft) counted marks₁ part d.left p
+      pass = went_on (labels_for h v) start most_nodes (draft most_nodes h (labels_for h v) v blank_draft) counted marks₁ part d.left p on
 
       given : Given h v pass.draft
       given = reading_some h v t.few pass.draft pass.is
@@ -121,12 +119,12 @@ module _ (r : Rooms) (h : Heap) (v : Value) (words bytes elems marks out : List 
       size : p.at ≡ length (encode given.datum)
       size = pass.made.shows.at_is ∙ ap length given.text
 
-      pub short_answer : length out < p.at → (after : List ℕ) → after ≡ out → Answered h v out ShortOutput after
+      pub short_answer : length out < p.at → (after : List ℕ) → after ≡ out → Answered h v out (Err ShortOutput) after
       unfolding told
       short_answer short after same =
           record {
             by_reading =
-                subst (λ (o : Option Datum). told o out ShortOutput after) (sym given.is) (omega (arith, size, short), same);
+                subst (λ (o : Option Datum). told o out (Err ShortOutput) after) (sym given.is) (refl, omega (arith, size, short), same);
           }
 
       -- the labels stay where no definition has begun any more
@@ -151,22 +149,25 @@ module _ (r : Rooms) (h : Heap) (v : Value) (words bytes elems marks out : List 
           quarter : (m : ℕ) → m / 4 * 4 / 4 ≡ m / 4
           quarter m = omega arith
 
-      pub length-answer : p.at ≤ length out → (start₂ : List ℕ) (q : Page) (marks₃ out₃ : List ℕ) → ValueDone h (labels_for h v) v start₂ q marks₃ out₃ → start₂ ≡ out → Answered h v out (Length q.at) out₃
+      pub length-answer : p.at ≤ length out → (start₂ : List ℕ) (written : code.Option Page) (marks₃ out₃ : List ℕ) → ValueDone h (labels_for h v) v start₂ written marks₃ out₃ → start₂ ≡ out → Answered h v out (Ok p.at) out₃
       unfolding told LeftBy stored
-      length-answer fits start₂ q marks₃ out₃ e same =
-          let l = subst (λ (o : Option Draft). LeftBy (labels_for h v) start₂ most_nodes o q marks₃ out₃) pass.is e.left in
+      length-answer fits start₂ written marks₃ out₃ e same =
           let d = given.datum in
           record {
             by_reading =
-                subst (λ (o : Option Datum). told o out (Length q.at) out₃) (sym given.is) (
-                  l.shows.at_is ∙ ap length given.text,
+                subst (λ (o : Option Datum). told o out (Ok p.at) out₃) (sym given.is) (
+                  size,
                   omega (arith, size, fits),
-                  l.shows.out_is
+                  out_is written (subst (λ (o : Option Draft). LeftBy (labels_for h v) start₂ most_nodes o written marks₃ out₃) pass.is e.left)
                       ∙ (λ i. lib.Seq.sets (same i) 0 (given.text i))
                       ∙ sets-eq (encode d) out 0 (omega (arith, size, fits))
                       ∙ ap (λ (n : ℕ). encode d ++ drop n out) (native.Mathlib.Nat.zero-add (length (encode d))),
                 );
           }
+        where
+          out_is : (r : code.Option Page) → LeftBy (labels_for h v) start₂ most_nodes (some pass.draft) r marks₃ out₃ → out₃ ≡ lib.Seq.sets start₂ 0 pass.draft.text
+          out_is None l = absurd l
+          out_is (Some q) l = l.shows.out_is
 
 -- ---- from the walk on
 
@@ -184,12 +185,12 @@ module _ (r : Rooms) (h : Heap) (v : Value) (words bytes elems scratch : List �
   label_task = record { stands = t.held.stands; named = t.held.named; blank = t.blank; room = t.held.room }
 
   module _ (known : ℕ) (marks : List ℕ) (d : LabelDone h v known marks) where
-    pub many_answer : 64 < known → (out : List ℕ) → Answered h v out OverLimit out
+    pub many_answer : 64 < known → (out : List ℕ) → Answered h v out (Err OverLimit) out
     unfolding told
     many_answer many out =
         record {
           by_reading =
-              subst (λ (o : Option Datum). told o out OverLimit out) (sym (reading_many h v (omega (arith, d.count_is, many)))) (refl, refl);
+              subst (λ (o : Option Datum). told o out (Err OverLimit) out) (sym (reading_many h v (omega (arith, d.count_is, many)))) (refl, refl);
         }
 
     pub marked_task : known ≤ 64 → length marks ≡ length scratch → MarkedTask r h v words bytes elems marks
@@ -247,10 +248,10 @@ module _ (h : Heap) (scratch out : List ℕ) where
       ap (λ (b : Bool). elim b as (λ b. ReadLeft) [ false ↦ stop no_such_slot | true ↦ by (reading h (slot s)) ]) e
   read_by (scalar x) e = refl
 
-  answered : (o : Option Datum) (a : code.Answer) (after : List ℕ) → told o out a after → read_left a (cleared scratch) after ≡ by o
+  answered : (o : Option Datum) (a : Result ℕ code_refusal.Refusal) (after : List ℕ) → told o out a after → read_left a (cleared scratch) after ≡ by o
   unfolding told refusals
   answered none a after t = λ i. read_left (t.0 i) (cleared scratch) (t.1 i)
-  answered (some d) (Length n) after t =
+  answered (some d) (Ok n) after t =
       (λ i. record { answer = accepted (t.0 i); scratch = cleared scratch; out = t.2 i })
       ∙ ap
       (λ (b : Bool).
@@ -258,17 +259,16 @@ module _ (h : Heap) (scratch out : List ℕ) where
       (record { answer = accepted (length (encode d)); scratch = cleared scratch; out = encode d ++ drop (length (encode d)) out })
       stop)
       (sym (le-ltb (length out) (length (encode d)) t.1))
-  answered (some d) ShortOutput after t =
-      (λ i. record { answer = refused short_output; scratch = cleared scratch; out = t.1 i })
+  answered (some d) (Err r) after t =
+      (λ i. read_left (Err (t.0 i)) (cleared scratch) (t.2 i))
       ∙ ap
       (λ (b : Bool).
       unless ((b ⇒ short_output) ∷ [])
       (record { answer = accepted (length (encode d)); scratch = cleared scratch; out = encode d ++ drop (length (encode d)) out })
       stop)
-      (sym (lt-ltb (length out) (length (encode d)) t.0))
-  answered (some d) OverLimit after t = absurd t
+      (sym (lt-ltb (length out) (length (encode d)) t.1))
 
-  pub read_answered : (v : Value) → value_named h v ≡ true → (a : code.Answer) (after scratch' : List ℕ) → Answered h v out a after → scratch' ≡ zeros (length scratch) → read_left a scratch' after ≡ read_value h scratch out v
+  pub read_answered : (v : Value) → value_named h v ≡ true → (a : Result ℕ code_refusal.Refusal) (after scratch' : List ℕ) → Answered h v out a after → scratch' ≡ zeros (length scratch) → read_left a scratch' after ≡ read_value h scratch out v
   unfolding cleared
   read_answered v e a after scratch' t zero' =
       ap (λ (l : List ℕ). read_left a l after) zero' ∙ answered (reading h v) a after t.by_reading ∙ sym (read_by v e)

@@ -1,11 +1,9 @@
 -- The build of a value from the first node on, in the lent lists, and marks in which no definition has begun. Assumes nothing.
 use mathlib.Core.Path.{◌≡◌, refl, sym, ap, ◌∙◌}
 use mathlib.Core.List.{List}
-use Prim.Native.Nat.{ℕ, ◌+◌, ◌*◌, ◌/◌, ◌≤◌, ◌<◌}
+use Prim.Native.Nat.{ℕ, ◌*◌, ◌/◌, ◌≤◌, ◌<◌}
 use native.Mathlib.Omega.{arith}
-use native.Mathlib.Decide.{ℕ_discrete, dec_lt}
-use lib.ListN.{length, get_or, set, get_or-eq_default}
-use lib.Seq.{get_or-set_same, get_or-set_other}
+use lib.ListN.{length, get_or}
 use Rattle.rules.specs.Numbers.{most_nodes}
 use Rattle.rules.specs.Cells.{Scalar, slot, scalar}
 use Rattle.rules.specs.Cells as cells
@@ -13,6 +11,7 @@ use Rattle.rules.specs.Nodes.{Atom, Node, write_scalar, nodes_rules}
 use Rattle.rules.specs.Heap.{Heap}
 use Rattle.rules.specs.Layout.{Rooms}
 use Rattle.rules.specs.Sound.{value_named, sound_rules}
+use Rattle.std.specs.Prelude as code
 use Rattle.leaf_rooms.specs.Rooms.{stored}
 use Rattle.leaf_cells.specs.Elements.{value_of}
 use Rattle.leaf_cells.specs.declared.Value.{Value}
@@ -26,7 +25,7 @@ use Rattle.heap_build.proofs.Cycle.{scalar_size}
 use Rattle.heap_read.specs.Whole.{ValueTask, ValueDone, blank_draft}
 
 abbrev pub first_page : Page
-first_page = record { left = 4096; at = 0; over = mathlib.Core.Bool.false }
+first_page = record { left = 4096; at = 0 }
 
 -- ---- a value
 
@@ -37,7 +36,7 @@ module _ (r : Rooms) (h : Heap) (labels : List ℕ) (v : Value) (words bytes ele
   first_shows : Shows labels out blank_draft first_page marks out
   unfolding stored
   first_shows =
-      record { on = refl; left_is = refl; at_is = refl; out_is = refl; marks_are = t.marked; small = omega arith }
+      record { left_is = refl; at_is = refl; out_is = refl; marks_are = t.marked; small = omega arith }
 
   pub slot_task : (s : ℕ) → v ≡ code_value.Slot s → Task first_job s first_page words bytes elems marks out
   unfolding sound_rules
@@ -54,7 +53,7 @@ module _ (r : Rooms) (h : Heap) (labels : List ℕ) (v : Value) (words bytes ele
         used = ap (λ (x : Value). value_named h (value_of x)) (sym e) ∙ t.held.named;
       }
 
-  pub slot_value : (s : ℕ) → v ≡ code_value.Slot s → (p : Page) (marks' out' : List ℕ) → Done first_job s p marks' out' → ValueDone h labels (value_of v) out p marks' out'
+  pub slot_value : (s : ℕ) → v ≡ code_value.Slot s → (p : code.Option Page) (marks' out' : List ℕ) → Done first_job s p marks' out' → ValueDone h labels (value_of v) out p marks' out'
   unfolding inside
   slot_value s e p marks' out' d =
       record {
@@ -63,7 +62,7 @@ module _ (r : Rooms) (h : Heap) (labels : List ℕ) (v : Value) (words bytes ele
             (ap (λ (x : Value). draft most_nodes h labels (value_of x) blank_draft) (sym e)) d.left;
       }
 
-  pub scalar_value : (x : Scalar) → value_of v ≡ scalar x → (p : Page) (after : List ℕ) → Noted out (write_scalar x) first_page after p → ValueDone h labels (value_of v) out p marks after
+  pub scalar_value : (x : Scalar) → value_of v ≡ scalar x → (p : code.Option Page) (after : List ℕ) → Noted out (write_scalar x) first_page after p → ValueDone h labels (value_of v) out p marks after
   unfolding nodes_rules
   scalar_value x e p after n =
       record {
@@ -86,34 +85,3 @@ pub record Forgotten (before : List ℕ) (i : ℕ) (marks : List ℕ) : Type 0 w
   pub passed : i ≤ length before
   pub low : (s : ℕ) → s < i → get_or marks s 0 ≡ freed (get_or before s 0)
   pub high : (s : ℕ) → i ≤ s → get_or marks s 0 ≡ get_or before s 0
-
-pub forget_start : (marks : List ℕ) → Forgotten marks 0 marks
-forget_start marks = record { size = refl; passed = omega arith; low = λ s l. absurd (omega arith); high = λ s l. refl }
-
-pub forget_on : (before : List ℕ) (i : ℕ) (marks : List ℕ) → Forgotten before i marks → i < length marks → Forgotten before (i + 1) (set marks i (freed (get_or marks i 0)))
-forget_on before i marks f small =
-    record {
-      size = lib.ListN.length-set marks i (freed (get_or marks i 0)) ∙ f.size;
-      passed = omega (arith, f.size);
-      low =
-          λ s l.
-          elim (ℕ_discrete s i) [
-            | yes e ↦
-                ap (λ (x : ℕ). get_or (set marks i (freed (get_or marks i 0))) x 0) e
-                ∙ get_or-set_same marks i (freed (get_or marks i 0)) 0 small
-                ∙ ap freed (f.high i (omega arith) ∙ ap (λ (x : ℕ). get_or before x 0) (sym e))
-            | no d ↦ get_or-set_other marks i s (freed (get_or marks i 0)) 0 d ∙ f.low s (omega arith)
-          ];
-      high =
-          λ s l.
-          get_or-set_other marks i s (freed (get_or marks i 0)) 0 (λ e. omega arith) ∙ f.high s (omega arith);
-    }
-
-pub forget_end : (before : List ℕ) (i : ℕ) (marks : List ℕ) → Forgotten before i marks → length marks ≤ i → (s : ℕ) → get_or marks s 0 ≡ freed (get_or before s 0)
-forget_end before i marks f end s =
-    elim (dec_lt s i) [
-      | yes l ↦ f.low s l
-      | no g ↦
-          let zero_there : get_or before s 0 ≡ 0 = get_or-eq_default before 0 (omega (arith, f.size)) in
-          f.high s (omega arith) ∙ zero_there ∙ sym (ap freed zero_there)
-    ]

@@ -1,9 +1,9 @@
 -- What a read behind the door's tests is given, answers and leaves. Document 01, "What a caller is told", rows 12 and 18. Assumes
 -- nothing.
-use Rattle.std.specs.Prelude.{◌≡◌, true, List, [], ◌++◌, ℕ, ◌≤◌, ◌<◌, length, get_or, drop}
+use Rattle.std.specs.Prelude as code
+use Rattle.std.specs.Prelude.{◌≡◌, Result, Ok, Err, true, List, [], ◌++◌, ℕ, ◌≤◌, ◌<◌, length, get_or, drop}
 use Rattle.std.proofs.Math.Option.{Option, none, some}
 use Rattle.rules.specs.Numbers.{most_nodes}
-use Rattle.rules.specs.Refusals.{Answer, accepted, refused, over_limit, short_output}
 use Rattle.rules.specs.Cells.{Value}
 use Rattle.rules.specs.Datum.{Datum, encode}
 use Rattle.rules.specs.Heap.{Heap, capacity}
@@ -15,16 +15,11 @@ use Rattle.leaf_write.specs.declared.Page.{Page}
 use Rattle.heap_walk.specs.Tasks.{Stands}
 use Rattle.heap_build.specs.Drafts.{Draft, draft}
 use Rattle.heap_build.specs.Tasks.{Marks, LeftBy}
-use Rattle.heap_read.specs.declared.Answer as code
-use Rattle.heap_read.specs.declared.Answer.TheVariants.{Length, OverLimit, ShortOutput}
+use Rattle.refusals.specs.declared.Refusal.{Refusal}
+use Rattle.refusals.specs.declared.Refusal.TheVariants.{OverLimit, ShortOutput}
+use Rattle.refusals.specs.Told.{answer_of}
 
--- the rules' answer of each case
-abbrev pub answer_of : code.Answer → Answer ℕ
-answer_of (Length n) = accepted n
-answer_of OverLimit = refused over_limit
-answer_of ShortOutput = refused short_output
-
-abbrev pub read_left : code.Answer → List ℕ → List ℕ → ReadLeft
+abbrev pub read_left : Result ℕ Refusal → List ℕ → List ℕ → ReadLeft
 read_left a scratch out = record { answer = answer_of a; scratch = scratch; out = out }
 
 -- a good heap stands in the lists, the value names a slot in use, and there is a word of scratch for each slot
@@ -54,16 +49,15 @@ pub record ValueTask (r : Rooms) (h : Heap) (labels : List ℕ) (v : Value) (wor
   pub marked : Marks labels [] marks
 
 -- what the build of a value leaves
-pub record ValueDone (h : Heap) (labels : List ℕ) (v : Value) (start : List ℕ) (p : Page) (marks out : List ℕ) : Type 0 where
-  pub left : LeftBy labels start most_nodes (draft most_nodes h labels v blank_draft) p marks out
+pub record ValueDone (h : Heap) (labels : List ℕ) (v : Value) (start : List ℕ) (r : code.Option Page) (marks out : List ℕ) : Type 0 where
+  pub left : LeftBy labels start most_nodes (draft most_nodes h labels v blank_draft) r marks out
 
 -- the answer and the output, by the rules' reading
-unfoldable pub told : Option Datum → List ℕ → code.Answer → List ℕ → Type 0
-told none before a after = (a ≡ OverLimit) × (after ≡ before)
-told (some d) before (Length n) after =
+unfoldable pub told : Option Datum → List ℕ → Result ℕ Refusal → List ℕ → Type 0
+told none before a after = (a ≡ Err OverLimit) × (after ≡ before)
+told (some d) before (Ok n) after =
     (n ≡ length (encode d)) × (length (encode d) ≤ length before) × (after ≡ encode d ++ drop (length (encode d)) before)
-told (some d) before ShortOutput after = (length before < length (encode d)) × (after ≡ before)
-told (some d) before OverLimit after = ⊥
+told (some d) before (Err r) after = (r ≡ ShortOutput) × (length before < length (encode d)) × (after ≡ before)
 
-pub record Answered (h : Heap) (v : Value) (before : List ℕ) (a : code.Answer) (after : List ℕ) : Type 0 where
+pub record Answered (h : Heap) (v : Value) (before : List ℕ) (a : Result ℕ Refusal) (after : List ℕ) : Type 0 where
   pub by_reading : told (reading h v) before a after

@@ -12,35 +12,18 @@ ghost use Rattle.leaf_cells.specs.Elements.{value_of};
 ghost use Rattle.heap_read.specs.Whole.{Held, ValueTask, ValueDone, MarkedTask, BlankTask, Answered, read_left};
 
 use leaf_cells::Value;
+use leaf_lists::Lists;
 use leaf_write::Page;
-
-// What a read answers: the length written, or the refusal.
-#[derive(Clone, Copy)]
-pub enum Answer {
-    Length(usize),
-    OverLimit,
-    ShortOutput,
-}
+use refusals::Refusal;
 
 // Builds a value from the first node on.
-fn build_value(
-    words: &[u64],
-    bytes: &[u8],
-    elems: &[u64],
-    marks: &mut [u64],
-    out: &mut [u8],
-    v: Value,
-) -> Page
-    requires { (r : Rooms) × (h : Heap) × (labels : List ℕ) × ValueTask r h labels (value_of v) words.now bytes.now elems.now marks.old }
-    ensures { (r : Rooms) (h : Heap) (labels : List ℕ) → ValueTask r h labels (value_of v) words.now bytes.now elems.now marks.old → ValueDone h labels (value_of v) out.old result marks.new out.new }
+fn build_value(heap: Lists<'_>, marks: &mut [u64], out: &mut [u8], v: Value) -> Option<Page>
+    requires { (r : Rooms) × (h : Heap) × (labels : List ℕ) × ValueTask r h labels (value_of v) heap.words.now heap.bytes.now heap.elems.now marks.old }
+    ensures { (r : Rooms) (h : Heap) (labels : List ℕ) → ValueTask r h labels (value_of v) heap.entry.words.now heap.entry.bytes.now heap.entry.elems.now marks.old → ValueDone h labels (value_of v) out.old result marks.new out.new }
 {
-    let p = Page {
-        left: 4096,
-        at: 0,
-        over: false,
-    };
+    let p = Page { left: 4096, at: 0 };
     match v {
-        Value::Slot(s) => heap_build::build(words, bytes, elems, marks, out, s, p),
+        Value::Slot(s) => heap_build::build(heap, marks, out, s, p),
         _ => leaf_write::scalar(out, leaf_cells::value_words(v), p),
     }
 }
@@ -49,70 +32,61 @@ fn build_value(
 fn forget(marks: &mut [u64])
     ensures { (s : ℕ) → get_or marks.new s 0 ≡ get_or marks.old s 0 / 4 * 4 }
 {
-    let mut i = 0;
-    while i < marks.len() {
-        marks[i] = marks[i] / 4 * 4;
-        i += 1;
+    for m in marks.iter_mut() {
+        *m = *m / 4 * 4;
     }
 }
 
 // Reads a value whose labels are marked.
 fn read_marked(
-    words: &[u64],
-    bytes: &[u8],
-    elems: &[u64],
+    heap: Lists<'_>,
     marks: &mut [u64],
     out: &mut [u8],
     v: Value,
-) -> Answer
-    requires { (r : Rooms) × (h : Heap) × MarkedTask r h (value_of v) words.now bytes.now elems.now marks.old }
-    ensures { (r : Rooms) (h : Heap) → MarkedTask r h (value_of v) words.now bytes.now elems.now marks.old → Answered h (value_of v) out.old result out.new }
+) -> Result<usize, Refusal>
+    requires { (r : Rooms) × (h : Heap) × MarkedTask r h (value_of v) heap.words.now heap.bytes.now heap.elems.now marks.old }
+    ensures { (r : Rooms) (h : Heap) → MarkedTask r h (value_of v) heap.entry.words.now heap.entry.bytes.now heap.entry.elems.now marks.old → Answered h (value_of v) out.old result out.new }
 {
-    let counted = build_value(words, bytes, elems, marks, &mut out[0..0], v);
-    if counted.over {
-        return Answer::OverLimit;
-    }
+    let counted = build_value(heap, marks, &mut [], v).ok_or(Refusal::OverLimit)?;
     if counted.at > out.len() {
-        return Answer::ShortOutput;
+        return Err(Refusal::ShortOutput);
     }
+    // What was counted is what is written now.
     forget(marks);
-    let written = build_value(words, bytes, elems, marks, out, v);
-    Answer::Length(written.at)
+    build_value(heap, marks, out, v);
+    Ok(counted.at)
 }
 
 // Reads a value with scratch that is zero.
 fn read_blank(
-    words: &[u64],
-    bytes: &[u8],
-    elems: &[u64],
+    heap: Lists<'_>,
     scratch: &mut [u64],
     out: &mut [u8],
     v: Value,
-) -> Answer
-    requires { (r : Rooms) × (h : Heap) × BlankTask r h (value_of v) words.now bytes.now elems.now scratch.old }
-    ensures { (r : Rooms) (h : Heap) → BlankTask r h (value_of v) words.now bytes.now elems.now scratch.old → Answered h (value_of v) out.old result out.new }
+) -> Result<usize, Refusal>
+    requires { (r : Rooms) × (h : Heap) × BlankTask r h (value_of v) heap.words.now heap.bytes.now heap.elems.now scratch.old }
+    ensures { (r : Rooms) (h : Heap) → BlankTask r h (value_of v) heap.entry.words.now heap.entry.bytes.now heap.entry.elems.now scratch.old → Answered h (value_of v) out.old result out.new }
 {
-    let count = heap_walk::label(words, elems, scratch, v);
+    let count = heap_walk::label(heap, scratch, v);
     if count > 64 {
-        return Answer::OverLimit;
+        return Err(Refusal::OverLimit);
     }
-    read_marked(words, bytes, elems, scratch, out, v)
+    read_marked(heap, scratch, out, v)
 }
 
-// The read of a value of a sound heap that names a slot in use, or of an allowed scalar.
+// The read of a value of a sound heap that names a slot in use, or of an allowed scalar. Answers the length written, or the
+// refusal.
 pub fn read(
-    words: &[u64],
-    bytes: &[u8],
-    elems: &[u64],
+    heap: Lists<'_>,
     scratch: &mut [u64],
     out: &mut [u8],
     v: Value,
-) -> Answer
-    requires { (r : Rooms) × (h : Heap) × Held r h (value_of v) (length scratch.old) words.now bytes.now elems.now }
-    ensures { (r : Rooms) (h : Heap) → Held r h (value_of v) (length scratch.old) words.now bytes.now elems.now → read_left result scratch.new out.new ≡ read_value h scratch.old out.old (value_of v) }
+) -> Result<usize, Refusal>
+    requires { (r : Rooms) × (h : Heap) × Held r h (value_of v) (length scratch.old) heap.words.now heap.bytes.now heap.elems.now }
+    ensures { (r : Rooms) (h : Heap) → Held r h (value_of v) (length scratch.old) heap.entry.words.now heap.entry.bytes.now heap.entry.elems.now → read_left result scratch.new out.new ≡ read_value h scratch.old out.old (value_of v) }
 {
     leaf_clear::clear_words(scratch);
-    let a = read_blank(words, bytes, elems, scratch, out, v);
+    let a = read_blank(heap, scratch, out, v);
     leaf_clear::clear_words(scratch);
     a
 }

@@ -6,16 +6,19 @@ ghost use Rattle.std.specs.Prelude.{true, ◌≡◌};
 ghost use Rattle.rules.specs.Heap.{fresh};
 ghost use Rattle.rules.specs.Layout.{rooms_of, lent_of};
 ghost use Rattle.rules.specs.Sound.{setup_numbers};
-ghost use Rattle.heap_sound_rows.specs.Rows.{lists};
+ghost use Rattle.leaf_lists.specs.Lists.{held, SameLists};
+
+use leaf_lists::ListsMut;
 
 // "Fresh": the lists are those of a heap of one chunk, all its slots free.
-pub fn fresh(words: &mut [u64], map: &mut [u8], bytes: &mut [u8], elems: &mut [u64], chunk: usize)
-    requires { setup_numbers chunk (lists words.old map.old bytes.old elems.old) ≡ true }
-    ensures { lists words.new map.new bytes.new elems.new ≡ lent_of (rooms_of (lists words.old map.old bytes.old elems.old)) (fresh chunk) }
+pub fn fresh(heap: &mut ListsMut<'_>, chunk: usize)
+    requires { setup_numbers chunk (held heap.old) ≡ true }
+    ensures same_lists { SameLists heap.old heap.new }
+    ensures fresh { held heap.new ≡ lent_of (rooms_of (held heap.old)) (fresh chunk) }
 {
-    leaf_clear::clear_words(words);
-    leaf_clear::clear_bytes(map);
-    leaf_clear::clear_bytes(bytes);
-    leaf_clear::clear_words(elems);
-    leaf_free::fresh(words, chunk);
+    leaf_clear::clear_words(heap.words);
+    leaf_clear::clear_bytes(heap.map);
+    leaf_clear::clear_bytes(heap.bytes);
+    leaf_clear::clear_words(heap.elems);
+    leaf_free::fresh(heap.words, chunk);
 }

@@ -1,18 +1,17 @@
 -- Painting: a part that is covered place by place, and the turn of a slot. Assumes nothing.
 use mathlib.Core.Path.{◌≡◌, refl, sym, ap, ◌∙◌, subst}
-use mathlib.Core.Bool.{Bool, true, false, not}
+use mathlib.Core.Bool.{Bool, true, false, ◌&&◌}
 use mathlib.Core.List.{List}
 use mathlib.Core.Logic.{◌⊎◌, inl, inr, ⊎_elim}
 use Prim.Native.Nat.{ℕ, ◌+◌, ◌-◌, ◌*◌, ◌≤◌, ◌<◌}
 use native.Mathlib.Decide.{ℕ_discrete, dec_lt}
 use native.Mathlib.Omega.{arith}
-use borrow.Author.Tests.{eqb-true, eq-eqb, ne_eqb, leb-true, le-leb, lt-leb}
+use borrow.Author.Tests.{eqb-true, eq-eqb, leb-true, le-leb}
 use lib.Dec.{eqb, leb}
 use lib.ListN.{length, get_or, set}
 use lib.Seq.{get_or-set_same, get_or-set_other}
-use Rattle.laws.specs.Basics.{choose, either, between}
+use Rattle.laws.specs.Basics.{choose, both, between}
 use Rattle.laws.proofs.Tests.{true≢false, both_left, both_right, both_true, either_cases, either_left, either_right}
-use Rattle.laws.proofs.Checks.{pass, fail}
 use Rattle.laws.proofs.Variants.{positive}
 use Rattle.rules.specs.Cells.{Block, block, same_block}
 use Rattle.rules.specs.Sound.{lies_in, same_or_disjoint}
@@ -22,16 +21,6 @@ use Rattle.heap_sound_blocks.specs.Blocks.{shown, Inside, Covered, Apart, Owned,
 -- ---- the block that a row shows
 
 module _ (ws : List ℕ) (low high i : ℕ) where
-  shown_not : between low high (get_or ws (8 + 8 * i) 0) ≡ false → block 0 0 ≡ shown ws low high i
-  unfolding shown
-  shown_not e = ap (λ (b : Bool). choose b (block (word ws i 1) (word ws i 2)) (block 0 0)) (sym e)
-
-  pub shown_below : get_or ws (8 + 8 * i) 0 < low → block 0 0 ≡ shown ws low high i
-  shown_below h = shown_not (sym (fail (leb low (get_or ws (8 + 8 * i) 0)) _ (lt-leb _ _ h)))
-
-  pub shown_above : low ≤ get_or ws (8 + 8 * i) 0 → high < get_or ws (8 + 8 * i) 0 → block 0 0 ≡ shown ws low high i
-  shown_above l h = shown_not (sym (pass (le-leb _ _ l) (sym (lt-leb _ _ h))))
-
   pub shown_is : low ≤ get_or ws (8 + 8 * i) 0 → get_or ws (8 + 8 * i) 0 ≤ high → block (word ws i 1) (word ws i 2) ≡ shown ws low high i
   unfolding shown
   shown_is l h = ap (λ (b : Bool). choose b (block (word ws i 1) (word ws i 2)) (block 0 0)) (sym (both_true (le-leb _ _ l) (le-leb _ _ h)))
@@ -39,20 +28,6 @@ module _ (ws : List ℕ) (low high i : ℕ) where
 -- ---- within the room in use
 
 module _ (used place size : ℕ) where
-  pub lies_past : used < place + size → false ≡ lies_in used (block place size)
-  unfolding lies_in
-  lies_past h = fail (leb (place + size) used) _ (lt-leb _ _ h)
-
-  pub lies_empty : place + size ≤ used → size ≡ 0 → eqb place 0 ≡ lies_in used (block place size)
-  unfolding lies_in
-  lies_empty h z =
-      pass (le-leb _ _ h) (ap (λ (b : Bool). either (not b) (eqb place 0)) (sym (eq-eqb size 0 z)))
-
-  pub lies_full : place + size ≤ used → (size ≡ 0 → ⊥) → true ≡ lies_in used (block place size)
-  unfolding lies_in
-  lies_full h d =
-      pass (le-leb _ _ h) (ap (λ (b : Bool). either (not b) (eqb place 0)) (sym (ne_eqb size 0 d)))
-
   pub lies_bound : lies_in used (block place size) ≡ true → place + size ≤ used
   unfolding lies_in
   lies_bound e = leb-true _ _ (both_left (leb (place + size) used) _ e)
@@ -247,6 +222,11 @@ module _ (shows : ℕ → Block) (used i : ℕ) where
         let e = one_block (shows j) (shows i) t.at (a.apart j i (omega (arith, o.below)) k (full _ _ o.inside) f) o.inside t.inside in
         omega (arith, (p.shared j (shows i).place o.below (moved (sym e) (begins (shows i) f))).painted))
 
+-- a test of both, as a derived comparison has it
+and_both : (a b : Bool) → (a && b) ≡ both a b
+and_both true b = refl
+and_both false b = refl
+
 -- the same, by the place and the size that were read
 module _ (shows : ℕ → Block) (used i place size : ℕ) (e : block place size ≡ shows i) where
   at_place : (before : List ℕ) → get_or before place 0 ≡ get_or before (shows i).place 0
@@ -286,6 +266,14 @@ module _ (shows : ℕ → Block) (used i place size : ℕ) (e : block place size
           (λ q.
           let w = f ∙ sym painted_by ∙ q ∙ sym e in
           n (ap (λ (b : Block). b.place) w) (ap (λ (b : Block). b.size) w))
+
+      -- as the comparison of the two finds it
+      pub read_by : (size ≡ 0 → ⊥) → (r : Bool) → r ≡ (eqb first_place place && eqb first_size size) → Turned shows used i before r
+      read_by s true q =
+          let e : both (eqb first_place place) (eqb first_size size) ≡ true = sym (q ∙ and_both (eqb first_place place) (eqb first_size size)) in
+          read_same (eqb-true _ _ (both_left (eqb first_place place) _ e)) (eqb-true _ _ (both_right (eqb first_place place) _ e))
+      read_by s false q =
+          read_other before s (λ u v. true≢false (sym (both_true (eq-eqb _ _ u) (eq-eqb _ _ v)) ∙ sym (q ∙ and_both (eqb first_place place) (eqb first_size size))))
 
 -- ---- all slots
 

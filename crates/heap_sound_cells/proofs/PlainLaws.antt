@@ -2,28 +2,17 @@
 use mathlib.Core.Path.{◌≡◌, refl, sym, ap, ◌∙◌}
 use mathlib.Core.Bool.{Bool, true, false}
 use mathlib.Core.List.{List}
-use Prim.Native.Nat.{ℕ, zero, suc, ◌+◌, ◌-◌, ◌*◌, ◌≤◌, ◌<◌}
-use borrow.Author.Tests.{ne_eqb, lt-ltb, le-ltb}
-use lib.Dec.{eqb, leb, ltb}
+use Prim.Native.Nat.{ℕ, zero, suc, ◌+◌, ◌*◌}
+use borrow.Author.Tests.{ne_eqb}
+use lib.Dec.{eqb, leb}
 use lib.ListN.{get_or}
 use Rattle.laws.specs.Basics.{choose, both}
-use Rattle.laws.proofs.Checks.{pass, fail}
-use Rattle.rules.specs.Map.{state_of, is_allocated}
 use Rattle.rules.specs.Cells.{slot, scalar}
 use Rattle.rules.specs.Utf8.{scalar_value}
 use Rattle.rules.specs.Layout.{cell_from, value_from, scalar_from, layout_rules}
 use Rattle.rules.specs.Sound.{scalar_allowed, value_allowed, sound_rules}
 use Rattle.heap_sound_rows.specs.Rows.{word}
 use Rattle.heap_sound_cells.specs.Looked.{used_slot, plain_good, plain_at, named}
-
-module _ (capacity : ℕ) (m : List ℕ) (s : ℕ) where
-  pub slot_past : capacity ≤ s → false ≡ used_slot capacity m s
-  unfolding used_slot
-  slot_past h = fail (ltb s capacity) _ (le-ltb s capacity h)
-
-  pub slot_state : (n : ℕ) → n ≡ state_of m s → s < capacity → eqb n 1 ≡ used_slot capacity m s
-  unfolding used_slot is_allocated
-  slot_state n e h = pass (lt-ltb s capacity h) (ap (λ (k : ℕ). eqb k 1) e)
 
 module _ (capacity : ℕ) (m : List ℕ) (k a b : ℕ) where
   pub char_good : k ≡ 5 → scalar_value a ≡ plain_good capacity m (cell_from k a b)

@@ -10,40 +10,30 @@ ghost use Rattle.rules.specs.Sound.{value_allowed};
 ghost use Rattle.heap_sound_blocks.specs.Blocks.{shown, Apart};
 ghost use Rattle.heap_sound_cells.specs.Looked.{used_slot, plain_good, plain_at, value_at, named, text_good, first_text, vector_good, first_vector, Looked};
 
+use heap_sound_blocks::{TEXTS, VECTORS};
+
 // A slot below the capacity that is Allocated.
+#[tactic(auto, unfolding(crate::specs::Looked::used_slot, rules::specs::Map::is_allocated))]
 pub fn in_use(map: &[u8], capacity: usize, slot: u64) -> bool
     ensures { result ≡ used_slot capacity map.now slot }
 {
-    if capacity as u64 <= slot {
-        return false;
-    }
-    leaf_map::get(map, slot as usize) == leaf_map::ALLOCATED
+    slot < capacity as u64 && leaf_map::get(map, slot as usize) == leaf_map::State::Allocated
 }
 
 // A cell by its three words, but for what its block holds: a Char is a scalar value, a pair names slots in use, and lengths are
 // allowed.
+// Kept: kinds by their numbers, here and below: they are words of the lent lists (the C interface), which the rules' Layout numbers.
 fn plain_good(map: &[u8], capacity: usize, kind: u64, a: u64, b: u64) -> bool
     ensures { result ≡ plain_good capacity map.now (cell_from kind a b) }
 {
-    if kind == 5 {
-        return leaf_utf8::is_scalar_value(a);
+    match kind {
+        5 => leaf_utf8::is_scalar_value(a),
+        7 => b <= 4096,
+        8 => b <= 255,
+        9 => in_use(map, capacity, a) && in_use(map, capacity, b),
+        10 => b <= 1024,
+        _ => true,
     }
-    if kind == 7 {
-        return b <= 4096;
-    }
-    if kind == 8 {
-        return b <= 255;
-    }
-    if kind == 9 {
-        if !in_use(map, capacity, a) {
-            return false;
-        }
-        return in_use(map, capacity, b);
-    }
-    if kind == 10 {
-        return b <= 1024;
-    }
-    true
 }
 
 // The cells of all slots below the capacity, but for what their blocks hold.
@@ -51,9 +41,7 @@ pub fn plain_cells(words: &[u64], map: &[u8], capacity: usize) -> bool
     requires { 8 + 8 * capacity ≤ length words.now }
     ensures { result ≡ every_below capacity (plain_at words.now map.now capacity) }
 {
-    let mut i = capacity;
-    while 0 < i {
-        i -= 1;
+    for i in 0..capacity {
         let at = 8 + 8 * i;
         if !plain_good(map, capacity, words[at], words[at + 1], words[at + 2]) {
             return false;
@@ -66,10 +54,7 @@ pub fn plain_cells(words: &[u64], map: &[u8], capacity: usize) -> bool
 fn value_allowed(kind: u64, a: u64) -> bool
     ensures { result ≡ value_allowed (value_from kind a) }
 {
-    if kind == 5 {
-        return leaf_utf8::is_scalar_value(a);
-    }
-    true
+    kind != 5 || leaf_utf8::is_scalar_value(a)
 }
 
 // The first n elements are allowed.
@@ -77,9 +62,7 @@ pub fn values_allowed(elems: &[u64], n: usize) -> bool
     requires { 3 * n ≤ length elems.now }
     ensures { result ≡ every_below n (λ k. value_allowed (value_at elems.now k)) }
 {
-    let mut i = n;
-    while 0 < i {
-        i -= 1;
+    for i in 0..n {
         if !value_allowed(elems[3 * i], elems[3 * i + 1]) {
             return false;
         }
@@ -91,10 +74,7 @@ pub fn values_allowed(elems: &[u64], n: usize) -> bool
 fn named(map: &[u8], capacity: usize, kind: u64, a: u64) -> bool
     ensures { result ≡ named capacity map.now (value_from kind a) }
 {
-    if kind == 15 {
-        return in_use(map, capacity, a);
-    }
-    true
+    kind != 15 || in_use(map, capacity, a)
 }
 
 // The elements of a block name slots in use.
@@ -102,9 +82,7 @@ fn block_named(elems: &[u64], map: &[u8], capacity: usize, place: usize, size: u
     requires { 3 * (place + size) ≤ length elems.now }
     ensures { result ≡ every_below size (λ k. named capacity map.now (value_at elems.now (place + k))) }
 {
-    let mut i = size;
-    while 0 < i {
-        i -= 1;
+    for i in 0..size {
         let at = 3 * (place + i);
         if !named(map, capacity, elems[at], elems[at + 1]) {
             return false;
@@ -120,7 +98,7 @@ fn text_utf8(words: &[u64], bytes: &[u8], paint: &[u16], slot: usize) -> bool
     requires bytes_in_bounds { length bytes.now ≤ length paint.now }
     ensures { result ≡ first_text words.now bytes.now paint.now slot }
 {
-    let b = heap_sound_blocks::shown(words, 7, 8, slot);
+    let b = heap_sound_blocks::shown(words, TEXTS, slot);
     if b.size == 0 {
         return true;
     }
@@ -138,9 +116,7 @@ fn texts_utf8(words: &[u64], bytes: &[u8], paint: &[u16], capacity: usize) -> bo
     requires bytes_in_bounds { length bytes.now ≤ length paint.now }
     ensures { result ≡ every_below capacity (first_text words.now bytes.now paint.now) }
 {
-    let mut i = capacity;
-    while 0 < i {
-        i -= 1;
+    for i in 0..capacity {
         if !text_utf8(words, bytes, paint, i) {
             return false;
         }
@@ -156,7 +132,7 @@ fn texts(words: &[u64], bytes: &[u8], capacity: usize, paint: &mut [u16]) -> boo
     requires by_index { (x : ℕ) → get_or paint.old x 0 ≡ 0 }
     ensures { Looked (shown words.now 7 8) (length bytes.now) capacity (text_good bytes.now) result }
 {
-    if !heap_sound_blocks::lay(words, 7, 8, bytes.len(), capacity, paint) {
+    if !heap_sound_blocks::lay(words, TEXTS, bytes.len(), capacity, paint) {
         return false;
     }
     texts_utf8(words, bytes, paint, capacity)
@@ -187,7 +163,7 @@ fn vector_named(
     requires slot_in_bounds_3 { (shown words.now 10 10 slot).place + (shown words.now 10 10 slot).size ≤ length paint.now }
     ensures { result ≡ first_vector words.now elems.now map.now capacity paint.now slot }
 {
-    let b = heap_sound_blocks::shown(words, 10, 10, slot);
+    let b = heap_sound_blocks::shown(words, VECTORS, slot);
     if b.size == 0 {
         return true;
     }
@@ -213,9 +189,7 @@ fn vectors_named(
     requires used_in_bounds_2 { used ≤ length paint.now }
     ensures { result ≡ every_below capacity (first_vector words.now elems.now map.now capacity paint.now) }
 {
-    let mut i = capacity;
-    while 0 < i {
-        i -= 1;
+    for i in 0..capacity {
         if !vector_named(words, elems, map, paint, capacity, i) {
             return false;
         }
@@ -239,7 +213,7 @@ fn vectors(
     requires by_index { (x : ℕ) → get_or paint.old x 0 ≡ 0 }
     ensures { Looked (shown words.now 10 10) used capacity (vector_good elems.now map.now capacity) result }
 {
-    if !heap_sound_blocks::lay(words, 10, 10, used, capacity, paint) {
+    if !heap_sound_blocks::lay(words, VECTORS, used, capacity, paint) {
         return false;
     }
     vectors_named(words, elems, map, paint, capacity, used)

@@ -3,7 +3,7 @@ use mathlib.Core.Path.{◌≡◌, refl, sym, ap, ◌∙◌, subst}
 use mathlib.Core.Bool.{Bool, true, false, not}
 use mathlib.Core.List.{List, []}
 use mathlib.Core.Logic.{⊎_elim}
-use Prim.Native.Nat.{ℕ, zero, suc, ◌+◌, ◌-◌, ◌*◌, ◌/◌, ◌%◌, ◌≤◌, ◌<◌}
+use Prim.Native.Nat.{ℕ, zero, suc, ◌+◌, ◌*◌, ◌/◌, ◌%◌, ◌≤◌, ◌<◌}
 use native.Mathlib.Omega.{arith}
 use borrow.Author.Tests.{eqb-true, eq-eqb, ne_eqb, ltb-true, lt-ltb}
 use lib.Dec.{eqb, ltb}
@@ -45,15 +45,6 @@ undefined_kind (suc (suc (suc (suc (suc (suc (suc (suc (suc (suc (suc k)))))))))
 -- ---- one slot
 
 module _ (ws m marks : List ℕ) (s : ℕ) where
-  pub free_marked : (r : Bool) → state_of m s ≡ Free → r ≡ both (eqb (get_or marks s 0) 1) (is_undefined (loaded ws s)) → r ≡ free_slot ws m marks s
-  unfolding free_slot
-  free_marked r e p = p ∙ ap (λ (b : Bool). choose b (both (eqb (get_or marks s 0) 1) (is_undefined (loaded ws s))) (eqb (get_or marks s 0) 0)) (sym (eq-eqb _ _ e))
-
-  pub used_unmarked : (state_of m s ≡ Free → ⊥) → eqb (get_or marks s 0) 0 ≡ free_slot ws m marks s
-  unfolding free_slot
-  used_unmarked d =
-      ap (λ (b : Bool). choose b (both (eqb (get_or marks s 0) 1) (is_undefined (loaded ws s))) (eqb (get_or marks s 0) 0)) (sym (ne_eqb _ _ d))
-
   pub undefined_word : either (eqb (get_or ws (8 + 8 * s) 0) 0) (ltb 10 (get_or ws (8 + 8 * s) 0)) ≡ is_undefined (loaded ws s)
   unfolding loaded
   undefined_word =

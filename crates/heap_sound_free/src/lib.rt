@@ -21,44 +21,36 @@ pub fn mark_column(
     requires by_index { (s : ℕ) → get_or marks.old s 0 ≡ 0 }
     ensures { Marked words.now column n capacity marks.new result }
 {
-    let mut i = 0;
-    while i < n {
+    for i in 0..n {
         let slot = words[8 + 8 * i + column] as usize;
-        if capacity <= slot {
-            return false;
-        }
-        if marks[slot] != 0 {
+        if slot >= capacity || marks[slot] != 0 {
             return false;
         }
         marks[slot] = 1;
-        i += 1;
     }
     true
 }
 
 // A cell of this kind is Undefined; so is one of an unknown kind taken.
+// Kept: the kind as its number: it is a word of the lent lists (the C interface), and may be none that is known.
 fn undefined(kind: u64) -> bool
     ensures { result ≡ either (eqb kind 0) (ltb 10 kind) }
 {
-    if kind == 0 {
-        return true;
-    }
-    10 < kind
+    kind == 0 || kind > 10
 }
 
 // A Free slot is marked and holds Undefined; another is not marked.
+#[tactic(auto, unfolding(crate::specs::Marks::free_slot), using(crate::proofs::FreeLaws::undefined_word))]
 fn free_slot(words: &[u64], map: &[u8], marks: &[u8], slot: usize) -> bool
     requires slot_in_bounds { 8 * slot + 16 ≤ length words.now }
     requires slot_in_bounds_2 { slot < length marks.now }
     ensures { result ≡ free_slot words.now map.now marks.now slot }
 {
-    if leaf_map::get(map, slot) == leaf_map::FREE {
-        if marks[slot] != 1 {
-            return false;
-        }
-        return undefined(words[8 + 8 * slot]);
+    if leaf_map::get(map, slot) == leaf_map::State::Free {
+        marks[slot] == 1 && undefined(words[8 + 8 * slot])
+    } else {
+        marks[slot] == 0
     }
-    marks[slot] == 0
 }
 
 fn free_slots(words: &[u64], map: &[u8], marks: &[u8], capacity: usize) -> bool
@@ -66,9 +58,7 @@ fn free_slots(words: &[u64], map: &[u8], marks: &[u8], capacity: usize) -> bool
     requires capacity_in_bounds_2 { capacity ≤ length marks.now }
     ensures { result ≡ every_below capacity (free_slot words.now map.now marks.now) }
 {
-    let mut i = capacity;
-    while 0 < i {
-        i -= 1;
+    for i in 0..capacity {
         if !free_slot(words, map, marks, i) {
             return false;
         }
@@ -86,10 +76,8 @@ fn free_list(words: &[u64], map: &[u8], marks: &mut [u8]) -> bool
     ensures { result ≡ free_sound words.now map.now }
 {
     let capacity = words[1] as usize;
-    if mark_column(words, 4, words[2] as usize, capacity, marks) {
-        return free_slots(words, map, marks, capacity);
-    }
-    false
+    mark_column(words, 4, words[2] as usize, capacity, marks)
+        && free_slots(words, map, marks, capacity)
 }
 
 // "the free list holds each Free slot once and Free slots hold Undefined".

@@ -2,40 +2,42 @@
 use mathlib.Core.Path.{◌≡◌, refl, sym, ap, ◌∙◌}
 use mathlib.Core.Bool.{Bool, true, false}
 use mathlib.Core.List.{List, [], ◌∷◌}
-use Prim.Native.Nat.{ℕ, zero, suc, ◌+◌, ◌-◌, ◌*◌, ◌/◌, ◌%◌, ◌≤◌, ◌<◌}
+use Prim.Native.Nat.{ℕ, zero, suc, ◌+◌, ◌*◌, ◌/◌, ◌%◌, ◌≤◌, ◌<◌}
 use native.Mathlib.Omega.{arith}
-use borrow.Author.Tests.{eqb-true, eq-eqb, ne_eqb, leb-true, le-leb, lt-ltb, le-ltb}
+use borrow.Author.Tests.{eqb-true, leb-true, le-leb, lt-ltb, le-ltb}
 use lib.Dec.{eqb, leb, ltb}
 use lib.ListN.{length, get_or}
+use Rattle.std.specs.List.{list_all}
+use Rattle.std.proofs.lemmas.List.Recursion.{and_at, and_from_places}
 use Rattle.laws.specs.Basics.{choose, both, either, every_below, same, basics}
-use Rattle.laws.proofs.Tests.{true≢false, both_left, both_right, both_true, either_cases, either_left, below_all, all_below, same_equal}
-use Rattle.laws.proofs.Checks.{refuted, agreeing, pass, fail}
+use Rattle.laws.proofs.Tests.{true≢false, both_left, both_right, both_true, either_cases, below_all, all_below}
+use Rattle.laws.proofs.Checks.{agreeing}
 use Rattle.rules.specs.Map.{state_in, state_of, is_allocated, Free, Allocated, map_rules}
 use Rattle.rules.specs.Layout.{cell_words, cell_from, value_words, value_from}
 use Rattle.rules.proofs.TwoBits.{by_place}
-use Rattle.heap_sound_rows.specs.Rows.{is_zero, word, byte_settled, settled, cell_kept, columns_kept, row_kept, element_kept}
+use Rattle.heap_sound_rows.specs.Rows.{is_zero, word, byte_settled, settled, cell_kept, element_kept}
 
 -- ---- three words
 
-module _ (l : List ℕ) (x y z k a b : ℕ) (e : x ∷ y ∷ z ∷ [] ≡ l) where
-  pub known : x ≡ k → y ≡ a → eqb z b ≡ same l (k ∷ a ∷ b ∷ [])
-  unfolding basics
-  known p q =
-      pass (eq-eqb x k p) (pass (eq-eqb y a q) (last (eqb z b))) ∙ ap (λ (m : List ℕ). same m (k ∷ a ∷ b ∷ [])) e
-    where
-      last : (t : Bool) → t ≡ both t true
-      last true = refl
-      last false = refl
+-- r is what was found of three words beside three others, one by one
+pub known : (l : List ℕ) (x y z k a b : ℕ) → x ∷ y ∷ z ∷ [] ≡ l → (r : Bool) → r ≡ both (eqb x k) (both (eqb y a) (eqb z b)) → r ≡ same l (k ∷ a ∷ b ∷ [])
+unfolding basics
+known l x y z k a b e r f =
+    f
+    ∙ ap (λ (t : Bool). both (eqb x k) (both (eqb y a) t)) (last (eqb z b))
+    ∙ ap (λ (m : List ℕ). same m (k ∷ a ∷ b ∷ [])) e
+  where
+    last : (t : Bool) → t ≡ both t true
+    last true = refl
+    last false = refl
 
-  pub unknown_kind : (x ≡ k → ⊥) → false ≡ same l (k ∷ a ∷ b ∷ [])
-  unfolding basics
-  unknown_kind d = fail (eqb x k) _ (ne_eqb x k d) ∙ ap (λ (m : List ℕ). same m (k ∷ a ∷ b ∷ [])) e
+-- ---- a test of every element, by a chain
 
-  pub unknown_field : (y ≡ a → ⊥) → false ≡ same l (k ∷ a ∷ b ∷ [])
-  unknown_field d = refuted _ (λ s. d (second (e ∙ same_equal l (k ∷ a ∷ b ∷ []) s)))
-    where
-      second : x ∷ y ∷ z ∷ [] ≡ k ∷ a ∷ b ∷ [] → y ≡ a
-      second p = cc
+pub all_is : (p : ℕ → Bool) (xs : List ℕ) → list_all p xs ≡ every_below (length xs) (λ i. p (get_or xs i 0))
+all_is p xs =
+    agreeing _ _
+    (λ e. all_below _ (length xs) (λ i h. and_at (list_all p) p refl (λ _ _. refl) xs i 0 h e))
+    (λ e. and_from_places (list_all p) p refl (λ _ _. refl) xs 0 (below_all _ (length xs) e))
 
 -- ---- the states of a byte, and of the map
 
@@ -116,26 +118,7 @@ module _ (ws : List ℕ) (i : ℕ) where
   unfolding cell_kept
   cell_past r h e = e ∙ left_out (ltb i (get_or ws 1 0)) _ _ (le-ltb i (get_or ws 1 0) h)
 
-pub place_used : (i count x : ℕ) → i < count → true ≡ either (ltb i count) (is_zero x)
-place_used i count x h = sym (either_left (is_zero x) (lt-ltb i count h))
-
-pub place_spare : (i count x : ℕ) → count ≤ i → is_zero x ≡ either (ltb i count) (is_zero x)
-place_spare i count x h = ap (λ (t : Bool). either t (is_zero x)) (sym (le-ltb i count h))
-
--- ---- a whole row, an element
-
-module _ (ws : List ℕ) (i : ℕ) where
-  pub row_good : cell_kept ws i ≡ true → columns_kept ws i ≡ true → row_kept ws i ≡ true
-  unfolding row_kept
-  row_good p q = both_true p q
-
-  pub cell_bad : cell_kept ws i ≡ false → row_kept ws i ≡ false
-  unfolding row_kept
-  cell_bad p = sym (fail (cell_kept ws i) _ p)
-
-  pub columns_bad : cell_kept ws i ≡ true → columns_kept ws i ≡ false → row_kept ws i ≡ false
-  unfolding row_kept
-  columns_bad p q = sym (pass p (sym q))
+-- ---- an element
 
 pub element_is : (es : List ℕ) (i : ℕ)
     → same (value_words (value_from (get_or es (3 * i) 0) (get_or es (3 * i + 1) 0))) (get_or es (3 * i) 0 ∷ get_or es (3 * i + 1) 0 ∷ get_or es (3 * i + 2) 0 ∷ [])

@@ -2,27 +2,29 @@
 -- each word is one that it writes. Assumes nothing.
 use mathlib.Core.Path.{◌≡◌, refl, sym, ap, ◌∙◌, subst}
 use mathlib.Core.Bool.{Bool, true}
-use mathlib.Core.List.{List, [], ◌∷◌, map, reverse}
+use mathlib.Core.List.{List, [], ◌∷◌, reverse}
 use Prim.Native.Nat.{ℕ, zero, suc, ◌+◌, ◌-◌, ◌*◌, ◌/◌, ◌%◌, ◌≤◌, ◌<◌}
 use native.Mathlib.Nat.{add-zero}
 use native.Mathlib.Decide.{dec_lt}
 use native.Mathlib.Omega.{arith}
 use borrow.Author.Tests.{eqb-true, eq-eqb, lt-ltb, le-ltb}
-use lib.Dec.{ltb}
-use lib.ListN.{length, get_or, take, get_or-eq_default}
-use lib.Seq.{get_or-take, length-take-le, ext_get_or}
-use Rattle.laws.specs.Basics.{either, every_below, join, same}
+use lib.Dec.{eqb, ltb}
+use lib.ListN.{length, get_or, take, drop, length-drop, get_or-eq_default}
+use lib.Seq.{take_all, get_or-take, get_or-drop, length-take-le, ext_get_or}
+use Rattle.std.specs.List.{list_all}
+use Rattle.laws.specs.Basics.{both, either, every_below, join, same}
 use Rattle.laws.proofs.Tests.{both_left, both_right, both_true, either_left, either_right, below_all, all_below, same_equal, same_refl}
+use Rattle.laws.proofs.Checks.{agreeing}
 use Rattle.laws.proofs.Lists.{get_d_rows, length-rows}
 use Rattle.laws.proofs.Stores.{get_or_before_zeros}
 use Rattle.rules.specs.Cells.{undefined, Value, scalar}
-use Rattle.rules.specs.Heap.{Entry, capacity, cell_at}
+use Rattle.rules.specs.Heap.{Entry, cell_at}
 use Rattle.rules.specs.Layout.{Lent, rooms_of, map_bytes, cell_words, value_words, value_from, header_words, row_words, entry_at, filled, lent_of, heap_of, layout_rules}
 use Rattle.rules.specs.Sound.{written_out, sound_rules}
 use Rattle.rules.proofs.LentLaws.{cell_width, value_width, word_at, cell_word, column_word, words_again, filled_length}
 use Rattle.heap_sound_rows.specs.Rows.{is_zero, spare_zero, word, cell_kept, row_kept, element_kept}
 use Rattle.heap_sound_rows.proofs.NumberLaws.{Numbers, Counts}
-use Rattle.heap_sound_rows.proofs.RowLaws.{cell_below, cell_past, element_is}
+use Rattle.heap_sound_rows.proofs.RowLaws.{all_is, cell_below, cell_past, element_is}
 use Rattle.heap_sound_rows.proofs.HeapFacts.{cells_length, free_length, table_length, bytes_length, elements_length, cell_is, cell_none, place_is, place_none, entry_is, entry_none, element_at}
 
 -- ---- rooms with zeros after what is in use
@@ -34,6 +36,15 @@ spare_all k l p = all_below _ (length l - k) (λ i h. eq-eqb _ 0 (p i h))
 all_spare : (k : ℕ) (l : List ℕ) → spare_zero k l ≡ true → (i : ℕ) → i < length l - k → get_or l (k + i) 0 ≡ 0
 unfolding spare_zero
 all_spare k l e i h = eqb-true _ 0 (below_all _ (length l - k) e i h)
+
+-- as a chain over what follows finds it
+pub spare_is : (k : ℕ) (l : List ℕ) → list_all is_zero (take (length l - k) (drop k l)) ≡ spare_zero k l
+unfolding spare_zero
+spare_is k l =
+    ap (list_all is_zero) (take_all (length l - k) (drop k l) (omega (arith, length-drop k l)))
+    ∙ all_is is_zero (drop k l)
+    ∙ ap (λ (n : ℕ). every_below n (λ i. is_zero (get_or (drop k l) i 0))) (length-drop k l)
+    ∙ ap (λ (f : ℕ → ℕ). every_below (length l - k) (λ i. is_zero (f i))) (λ j i. get_or-drop k l i 0 j)
 
 module _ (room k : ℕ) (l : List ℕ) (whole : length l ≡ room) (within : k ≤ room) where
   at_filled : (i : ℕ) → get_or (filled room (take k l)) i 0 ≡ get_or (take k l) i 0
@@ -338,3 +349,38 @@ module _ (l : Lent) (chunk : ℕ) (n : Numbers chunk l) (c : Counts l) where
         elements = elements_told elems;
         rest = rest_told elems;
       }
+
+  -- the same as one test, whose parts are at hand by equations
+  abbrev pub parts : Bool → Bool → Bool → Bool
+  parts m b e =
+      both (eqb (get_or l.words 6 0) 1)
+      (both (eqb (get_or l.words 7 0) 0)
+      (both m
+      (both b
+      (both e (both (every_below (get_or l.words 5 0) (element_kept l.elems)) (every_below ((length l.words - 8) / 8) (row_kept l.words)))))))
+
+  pub parts_are : (r m b e : Bool) → m ≡ spare_zero (get_or l.words 1 0 / 4) l.map → b ≡ spare_zero (get_or l.words 4 0) l.bytes → e ≡ spare_zero (3 * get_or l.words 5 0) l.elems → r ≡ parts m b e → r ≡ written_out l
+  parts_are r m b e p q s t = t ∙ agreeing _ _ (λ f. kept_written (told f)) (λ f. back (written_kept f))
+    where
+      told : parts m b e ≡ true → Kept
+      told f =
+          let f1 = both_right (eqb (get_or l.words 6 0) 1) _ f in
+          let f2 = both_right (eqb (get_or l.words 7 0) 0) _ f1 in
+          let f3 = both_right m _ f2 in
+          let f4 = both_right b _ f3 in
+          let f5 = both_right e _ f4 in
+          record {
+            growth = eqb-true _ 1 (both_left (eqb (get_or l.words 6 0) 1) _ f);
+            last = eqb-true _ 0 (both_left (eqb (get_or l.words 7 0) 0) _ f1);
+            rows = both_right (every_below (get_or l.words 5 0) (element_kept l.elems)) _ f5;
+            map = sym p ∙ both_left m _ f2;
+            bytes = sym q ∙ both_left b _ f3;
+            elements = both_left (every_below (get_or l.words 5 0) (element_kept l.elems)) _ f5;
+            rest = sym s ∙ both_left e _ f4;
+          }
+
+      back : Kept → parts m b e ≡ true
+      back k =
+          both_true (eq-eqb _ 1 k.growth)
+          (both_true (eq-eqb _ 0 k.last)
+          (both_true (p ∙ k.map) (both_true (q ∙ k.bytes) (both_true (s ∙ k.rest) (both_true k.elements k.rows)))))

@@ -2,30 +2,50 @@
 use mathlib.Core.Path.{◌≡◌, refl, sym, ap, ◌∙◌, subst}
 use mathlib.Core.Bool.{Bool, true, false}
 use mathlib.Core.List.{List}
-use Prim.Native.Nat.{ℕ, ◌+◌, ◌-◌, ◌*◌, ◌≤◌, ◌<◌}
+use Prim.Native.Nat.{ℕ, ◌+◌, ◌*◌, ◌≤◌, ◌<◌}
 use native.Mathlib.Decide.{ℕ_discrete, dec_lt}
 use native.Mathlib.Nat.{zero-add}
 use native.Mathlib.Omega.{arith}
 use borrow.Author.Tests.{eqb-true, eq-eqb, ne_eqb, ltb-true}
 use lib.Dec.{eqb, ltb}
-use lib.ListN.{length, get_or, set, take, drop, length-set}
+use lib.ListN.{length, get_or, set}
 use lib.Seq.{get_or-set_same, get_or-set_other, ext_get_or}
+use Rattle.std.specs.Bool.{MatchBool}
+use Rattle.std.specs.List.{range_with_len, AllWithin, HoldsAt}
+use Rattle.std.proofs.lemmas.List.FromFn.{length-range_with_len, get_or-range_with_len}
 use Rattle.laws.specs.Basics.{every_below, rising}
 use Rattle.laws.proofs.Tests.{true≢false, both_left, both_right, below_all, all_below}
 use Rattle.laws.proofs.Lists.{length-rising, get_or_rising}
 use Rattle.laws.proofs.Checks.{pass, fail}
-use Rattle.leaf_names.specs.Keys.{key_of, Within, Entries, Goes, neighbours_differ}
+use Rattle.leaf_names.specs.declared.Key as code
+use Rattle.leaf_names.specs.Keys.{stored, key_in, key_of, Goes, neighbours_differ}
 use Rattle.leaf_names.specs.Ordering.{Key}
-use Rattle.leaf_sort.specs.Sinking.{Arranged}
+use Rattle.leaf_sort.specs.Arranged.{Arranged}
 use Rattle.leaf_sort.proofs.Arranging.{one_each, two_clash}
 use Rattle.heap_sound_rows.specs.Rows.{word}
 use Rattle.heap_sound_cells.specs.Looked.{used_slot}
-use Rattle.heap_sound_cells.proofs.FirstLaws.{read_bound, apart_bound}
-use Rattle.heap_sound_blocks.specs.Blocks.{shown, Apart}
-use Rattle.heap_sound_blocks.proofs.PaintLaws.{shown_is}
 use Rattle.heap_sound_free.specs.Marks.{new_at, column_of}
 use Rattle.heap_sound_free.proofs.TallyLaws.{tally_none, none_tally, new_is, new_of}
 use Rattle.heap_sound_table.specs.Entries.{entry_good, name_of, Keyed, KeysDiffer, Leading, NamesDiffer, Decided, TableGood}
+
+-- ---- a test of every number below n, as `all` over a range answers it
+
+pub every_by : (f : ℕ → Bool) (n : ℕ) (r : Bool)
+    → MatchBool r (AllWithin (λ i. f i ≡ true) (range_with_len 0 n) 0 (length (range_with_len 0 n)))
+    ((k : ℕ) × (k < length (range_with_len 0 n)) × HoldsAt (λ i. f i ≡ false) (range_with_len 0 n) k)
+    → r ≡ every_below n f
+every_by f n true h =
+    sym (all_below f n (λ i l.
+    ap f (sym (get_or-range_with_len 0 n i 0 l ∙ zero-add i)) ∙ h i 0 (omega arith) (omega (arith, length-range_with_len 0 n))))
+every_by f n false h = none (every_below n f) refl
+  where
+    low : h.0 < n
+    low = omega (arith, h.1, length-range_with_len 0 n)
+
+    none : (t : Bool) → every_below n f ≡ t → false ≡ every_below n f
+    none true e =
+        absurd (true≢false (sym (below_all f n e h.0 low) ∙ ap f (sym (get_or-range_with_len 0 n h.0 0 low ∙ zero-add h.0)) ∙ h.2 0))
+    none false e = sym e
 
 -- ---- an entry
 
@@ -58,62 +78,22 @@ module _ (ws m : List ℕ) (capacity i : ℕ) where
 -- ---- the keys, as they are copied
 
 module _ (ws : List ℕ) where
-  pub keyed_none : (keys : List ℕ) → Keyed ws 0 keys
-  keyed_none keys =
-      record { place = λ e h. absurd (omega arith); size = λ e h. absurd (omega arith); scope = λ e h. absurd (omega arith); room = omega arith }
+  pub keyed_none : (keys : List code.Key) → Keyed ws keys 0
+  keyed_none keys = record { at = λ e h. absurd (omega arith) }
 
-  module _ (keys : List ℕ) (i a b c : ℕ) (room : 3 * i + 2 < length keys) where
-    abbrev now : List ℕ
-    now = set (set (set keys (3 * i) a) (3 * i + 1) b) (3 * i + 2) c
-
-    at_first : get_or now (3 * i) 0 ≡ a
-    at_first =
-        get_or-set_other (set (set keys (3 * i) a) (3 * i + 1) b) (3 * i + 2) (3 * i) c 0 (λ e. omega arith)
-        ∙ get_or-set_other (set keys (3 * i) a) (3 * i + 1) (3 * i) b 0 (λ e. omega arith)
-        ∙ get_or-set_same keys (3 * i) a 0 (omega arith)
-
-    at_second : get_or now (3 * i + 1) 0 ≡ b
-    at_second =
-        get_or-set_other (set (set keys (3 * i) a) (3 * i + 1) b) (3 * i + 2) (3 * i + 1) c 0 (λ e. omega arith)
-        ∙ get_or-set_same (set keys (3 * i) a) (3 * i + 1) b 0 (omega (arith, length-set keys (3 * i) a))
-
-    at_third : get_or now (3 * i + 2) 0 ≡ c
-    at_third =
-        get_or-set_same (set (set keys (3 * i) a) (3 * i + 1) b) (3 * i + 2) c 0
-        (omega (arith, length-set (set keys (3 * i) a) (3 * i + 1) b, length-set keys (3 * i) a))
-
-    elsewhere : (x : ℕ) → x < 3 * i → get_or now x 0 ≡ get_or keys x 0
-    elsewhere x h =
-        get_or-set_other (set (set keys (3 * i) a) (3 * i + 1) b) (3 * i + 2) x c 0 (λ e. omega arith)
-        ∙ get_or-set_other (set keys (3 * i) a) (3 * i + 1) x b 0 (λ e. omega arith)
-        ∙ get_or-set_other keys (3 * i) x a 0 (λ e. omega arith)
-
-    pub keyed_more : Keyed ws i keys → a ≡ word ws (word ws i 5) 1 → b ≡ word ws (word ws i 5) 2 → c ≡ word ws i 6 → Keyed ws (i + 1) now
-    keyed_more k p q r =
-        record {
-          place = λ e h.
-              elim (ℕ_discrete e i) [
-                | yes x ↦ ap (λ (n : ℕ). get_or now (3 * n) 0) x ∙ at_first ∙ p ∙ ap (λ (n : ℕ). word ws (word ws n 5) 1) (sym x)
-                | no d ↦ elsewhere (3 * e) (omega arith) ∙ k.place e (omega arith)
-              ];
-          size = λ e h.
-              elim (ℕ_discrete e i) [
-                | yes x ↦ ap (λ (n : ℕ). get_or now (3 * n + 1) 0) x ∙ at_second ∙ q ∙ ap (λ (n : ℕ). word ws (word ws n 5) 2) (sym x)
-                | no d ↦ elsewhere (3 * e + 1) (omega arith) ∙ k.size e (omega arith)
-              ];
-          scope = λ e h.
-              elim (ℕ_discrete e i) [
-                | yes x ↦ ap (λ (n : ℕ). get_or now (3 * n + 2) 0) x ∙ at_third ∙ r ∙ ap (λ (n : ℕ). word ws n 6) (sym x)
-                | no d ↦ elsewhere (3 * e + 2) (omega arith) ∙ k.scope e (omega arith)
-              ];
-          room =
-              omega (
-                arith,
-                length-set (set (set keys (3 * i) a) (3 * i + 1) b) (3 * i + 2) c,
-                length-set (set keys (3 * i) a) (3 * i + 1) b,
-                length-set keys (3 * i) a,
-              );
-        }
+  pub keyed_more : (keys : List code.Key) (i : ℕ) (k : code.Key) → i < length keys → Keyed ws keys i
+      → k ≡ record { place = word ws (word ws i 5) 1; size = word ws (word ws i 5) 2; scope = word ws i 6 } → Keyed ws (set keys i k) (i + 1)
+  keyed_more keys i k room before e =
+      record {
+        at = λ j h.
+            elim (ℕ_discrete j i) [
+              | yes x ↦ ap (stored (set keys i k)) x ∙ get_or-set_same keys i k _ room ∙ e ∙ ap (λ (n : ℕ). entry_key ws n) (sym x)
+              | no d ↦ get_or-set_other keys i j k _ d ∙ before.at j (omega arith)
+            ];
+      }
+    where
+      entry_key : List ℕ → ℕ → code.Key
+      entry_key ws n = record { place = word ws (word ws n 5) 1; size = word ws (word ws n 5) 2; scope = word ws n 6 }
 
 -- ---- the entries listed
 
@@ -131,18 +111,7 @@ listed_all l n e p =
 
 -- ---- sorted, and neighbours looked at
 
-listed_within : (keys bytes : List ℕ) (n : ℕ) → ((e : ℕ) → e < n → Within keys bytes e) → Entries keys bytes (rising 0 n)
-listed_within keys bytes n w =
-    record {
-      within = λ k h.
-          let l : k < n = omega (arith, length-rising 0 n) in
-          subst (λ (e : ℕ). Within keys bytes e) (sym (get_or_rising 0 n k 0 l ∙ zero-add k)) (w k l);
-    }
-
-pub listed_entries : (keys bytes l : List ℕ) (n : ℕ) → l ≡ rising 0 n → ((e : ℕ) → e < n → Within keys bytes e) → Entries keys bytes l
-listed_entries keys bytes l n e w = subst (λ (x : List ℕ). Entries keys bytes x) (sym e) (listed_within keys bytes n w)
-
-pub keys_decided : (keys bytes : List ℕ) (n : ℕ) (xs ys : List ℕ) (r : Bool) → xs ≡ rising 0 n → Arranged (Goes keys bytes) xs ys
+pub keys_decided : (keys : List code.Key) (bytes : List ℕ) (n : ℕ) (xs ys : List ℕ) (r : Bool) → xs ≡ rising 0 n → Arranged (Goes keys bytes) xs ys
     → r ≡ neighbours_differ keys bytes ys → Decided (KeysDiffer keys bytes n) r
 keys_decided keys bytes n xs ys r l b e =
     let a = subst (λ (x : List ℕ). Arranged (Goes keys bytes) x ys) l b in
@@ -155,14 +124,9 @@ keys_decided keys bytes n xs ys r l b e =
 
 -- ---- names
 
-module _ (ws bytes : List ℕ) (n : ℕ) (keys : List ℕ) (k : Keyed ws n keys) where
+module _ (ws bytes : List ℕ) (n : ℕ) (keys : List code.Key) (k : Keyed ws keys n) where
   key_is : (e : ℕ) → e < n → key_of keys bytes e ≡ record { name = name_of ws bytes e; scope = word ws e 6 }
-  unfolding key_of
-  key_is e h = λ j. record { name = take (k.size e h j) (drop (k.place e h j) bytes); scope = k.scope e h j }
-
-  pub keys_within : Leading ws bytes n → (e : ℕ) → e < n → Within keys bytes e
-  keys_within l e h =
-      record { row = omega (arith, k.room); part = omega (arith, l.name e h, k.place e h, k.size e h) }
+  key_is e h = ap (key_in bytes) (k.at e h)
 
   pub names_decided : (r : Bool) (count : ℕ) → count ≡ n → Decided (KeysDiffer keys bytes count) r → Decided (NamesDiffer ws bytes n) r
   names_decided r count whole decided =
@@ -196,16 +160,8 @@ module _ (ws m bytes : List ℕ) (capacity n : ℕ) where
     low : (e : ℕ) → e < n → word ws e 5 < capacity
     low e h = entry_low ws m capacity e (below_all _ n good e h)
 
-    pub leading : 8 + 8 * capacity ≤ length ws → Apart (shown ws 7 8) (length bytes) capacity → Leading ws bytes n
-    leading room a =
-        record {
-          row = λ e h. omega (arith, low e h);
-          name = λ e h.
-              let k = entry_kind ws m capacity e (below_all _ n good e h) in
-              let s = shown_is ws 7 8 (word ws e 5) (omega (arith, k)) (omega (arith, k)) in
-              read_bound (shown ws 7 8 (word ws e 5)) (word ws (word ws e 5) 1) (word ws (word ws e 5) 2) (length bytes) s
-              (apart_bound (shown ws 7 8) (length bytes) capacity (word ws e 5) a (low e h));
-        }
+    pub leading : 8 + 8 * capacity ≤ length ws → (m : ℕ) → m ≡ n → Leading ws m
+    leading room m q = record { row = λ e h. omega (arith, low e (omega arith)) }
 
     pub slots_bad : every_below n (new_at (column_of ws 5) capacity) ≡ false → Decided (TableGood ws m bytes capacity n) false
     slots_bad e =
@@ -219,9 +175,10 @@ module _ (ws m bytes : List ℕ) (capacity n : ℕ) where
               ∙ e);
         }
 
-    pub table_decided : every_below n (new_at (column_of ws 5) capacity) ≡ true → (r : Bool) → Decided (NamesDiffer ws bytes n) r
-        → Decided (TableGood ws m bytes capacity n) r
-    table_decided new r d =
+    pub table_decided : every_below n (new_at (column_of ws 5) capacity) ≡ true → (r : Bool) (count : ℕ) → count ≡ n
+        → Decided (NamesDiffer ws bytes count) r → Decided (TableGood ws m bytes capacity n) r
+    table_decided new r count whole decided =
+        let d = subst (λ (c : ℕ). Decided (NamesDiffer ws bytes c) r) whole decided in
         record {
           holds = λ t.
               record {

@@ -5,7 +5,8 @@ use Rattle.laws.specs.Basics.{both}
 use Rattle.rules.specs.Numbers.{bits32}
 use Rattle.rules.specs.Cells.{block}
 use Rattle.rules.specs.Heap.{part_of}
-use Rattle.leaf_names.specs.Keys.{key_of}
+use Rattle.leaf_names.specs.declared.Key as code
+use Rattle.leaf_names.specs.Keys.{stored, key_of}
 use Rattle.heap_sound_rows.specs.Rows.{word}
 use Rattle.heap_sound_cells.specs.Looked.{used_slot}
 
@@ -19,20 +20,16 @@ abbrev pub name_of : List ℕ → List ℕ → ℕ → List ℕ
 name_of ws bytes i = part_of bytes (block (word ws (word ws i 5) 1) (word ws (word ws i 5) 2))
 
 -- the keys of the first n entries stand in a list
-pub record Keyed (ws : List ℕ) (n : ℕ) (keys : List ℕ) : Type 0 where
-  pub place : (e : ℕ) → e < n → get_or keys (3 * e) 0 ≡ word ws (word ws e 5) 1
-  pub size : (e : ℕ) → e < n → get_or keys (3 * e + 1) 0 ≡ word ws (word ws e 5) 2
-  pub scope : (e : ℕ) → e < n → get_or keys (3 * e + 2) 0 ≡ word ws e 6
-  pub room : 3 * n ≤ length keys
+pub record Keyed (ws : List ℕ) (keys : List code.Key) (n : ℕ) : Type 0 where
+  pub at : (e : ℕ) → e < n → stored keys e ≡ record { place = word ws (word ws e 5) 1; size = word ws (word ws e 5) 2; scope = word ws e 6 }
 
 -- no two of n entries have one key
-pub record KeysDiffer (keys bytes : List ℕ) (n : ℕ) : Type 0 where
+pub record KeysDiffer (keys : List code.Key) (bytes : List ℕ) (n : ℕ) : Type 0 where
   pub differ : (d e : ℕ) → d < n → e < n → key_of keys bytes d ≡ key_of keys bytes e → d ≡ e
 
--- the first n entries lead to rows that hold a name within the bytes
-pub record Leading (ws bytes : List ℕ) (n : ℕ) : Type 0 where
+-- the first n entries lead to rows
+pub record Leading (ws : List ℕ) (n : ℕ) : Type 0 where
   pub row : (e : ℕ) → e < n → 8 * word ws e 5 + 16 ≤ length ws
-  pub name : (e : ℕ) → e < n → word ws (word ws e 5) 1 + word ws (word ws e 5) 2 ≤ length bytes
 
 -- no two of n entries have one name and one scope
 pub record NamesDiffer (ws bytes : List ℕ) (n : ℕ) : Type 0 where

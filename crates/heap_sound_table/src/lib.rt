@@ -3,14 +3,15 @@
 // sorted, and compared with their neighbours.
 #![tactic(auto)]
 
-ghost use Rattle.std.specs.Prelude.{◌≡◌, ℕ, ◌+◌, ◌*◌, ◌<◌, ◌≤◌, length, get_or};
+ghost use Rattle.std.specs.Prelude.{◌≡◌, ◌+◌, ◌*◌, ◌≤◌, length};
 ghost use Rattle.laws.specs.Basics.{every_below, rising};
-ghost use Rattle.heap_sound_rows.specs.Rows.{word};
 ghost use Rattle.heap_sound_blocks.specs.Blocks.{shown, Apart};
-ghost use Rattle.leaf_names.specs.Keys.{Within};
 ghost use Rattle.heap_sound_table.specs.Entries.{entry_good, Keyed, KeysDiffer, Leading, NamesDiffer, Decided, TableGood};
 
+use leaf_names::Key;
+
 // An entry leads to a symbol in use, and its scope is of 32 bits.
+// Kept: a symbol's kind as the number 8, since the definition `entry_good` speaks of the lent word.
 fn entry_good(words: &[u64], map: &[u8], capacity: usize, i: usize) -> bool
     requires i_in_bounds { 8 * i + 16 ≤ length words.now }
     requires capacity_in_bounds { 8 + 8 * capacity ≤ length words.now }
@@ -18,13 +19,9 @@ fn entry_good(words: &[u64], map: &[u8], capacity: usize, i: usize) -> bool
 {
     let at = 8 + 8 * i;
     let slot = words[at + 5];
-    if !heap_sound_cells::in_use(map, capacity, slot) {
-        return false;
-    }
-    if words[8 + 8 * slot as usize] != 8 {
-        return false;
-    }
-    words[at + 6] < 4294967296
+    heap_sound_cells::in_use(map, capacity, slot)
+        && words[8 + 8 * slot as usize] == 8
+        && words[at + 6] < 4294967296
 }
 
 fn entries_good(words: &[u64], map: &[u8], capacity: usize, n: usize) -> bool
@@ -32,48 +29,37 @@ fn entries_good(words: &[u64], map: &[u8], capacity: usize, n: usize) -> bool
     requires n_le_capacity { n ≤ capacity }
     ensures { result ≡ every_below n (entry_good words.now map.now capacity) }
 {
-    let mut i = n;
-    while 0 < i {
-        i -= 1;
-        if !entry_good(words, map, capacity, i) {
-            return false;
-        }
-    }
-    true
+    (0..n).all(|i| entry_good(words, map, capacity, i))
 }
 
-// Copies the keys of the first n entries: the name's place and size, and the scope.
-fn list_keys(words: &[u64], n: usize, keys: &mut [u64])
-    requires n_in_bounds { 8 + 8 * n ≤ length words.now }
-    requires n_in_bounds_2 { 3 * n ≤ length keys.old }
-    requires by_index { (e : ℕ) → e < n → 8 * word words.now e 5 + 16 ≤ length words.now }
-    ensures { Keyed words.now n keys.new }
+// Copies the keys of the first entries: the name's place and size, and the scope.
+fn list_keys(words: &[u64], keys: &mut [Key])
+    requires rows { 8 + 8 * length keys.old ≤ length words.now }
+    requires leading { Leading words.now (length keys.old) }
+    ensures { Keyed words.now keys.new (length keys.old) }
 {
-    let mut i = 0;
-    while i < n {
+    for (i, key) in keys.iter_mut().enumerate() {
         let at = 8 + 8 * i;
         let cell = 8 + 8 * words[at + 5] as usize;
-        keys[3 * i] = words[cell + 1];
-        keys[3 * i + 1] = words[cell + 2];
-        keys[3 * i + 2] = words[at + 6];
-        i += 1;
+        *key = Key {
+            place: words[cell + 1] as usize,
+            size: words[cell + 2] as usize,
+            scope: words[at + 6],
+        };
     }
 }
 
 // Lists the entries 0, 1, ..
-fn list_order(order: &mut [u64])
+fn list_order(order: &mut [usize])
     ensures { order.new ≡ rising 0 (length order.old) }
 {
-    let mut i = 0;
-    while i < order.len() {
-        order[i] = i as u64;
-        i += 1;
+    for (i, entry) in order.iter_mut().enumerate() {
+        *entry = i;
     }
 }
 
 // No two of the entries have one key.
-fn keys_differ(order: &mut [u64], keys: &[u64], bytes: &[u8]) -> bool
-    requires { (e : ℕ) → e < length order.old → Within keys.now bytes.now e }
+fn keys_differ(order: &mut [usize], keys: &[Key], bytes: &[u8]) -> bool
     ensures { Decided (KeysDiffer keys.now bytes.now (length order.old)) result }
 {
     list_order(order);
@@ -81,41 +67,15 @@ fn keys_differ(order: &mut [u64], keys: &[u64], bytes: &[u8]) -> bool
     leaf_sort::distinct(order, keys, bytes)
 }
 
-// No two of the first n entries have one name and one scope.
-fn names_differ(words: &[u64], bytes: &[u8], n: usize, keys: &mut [u64], order: &mut [u64]) -> bool
-    requires n_in_bounds { 8 + 8 * n ≤ length words.now }
-    requires n_in_bounds_2 { (3 * n ≤ length keys.old) × (n ≤ length order.old) }
-    requires leading { Leading words.now bytes.now n }
-    ensures { Decided (NamesDiffer words.now bytes.now n) result }
+// No two of the first entries, as many as the keys and places lent, have one name and one scope.
+fn names_differ(words: &[u64], bytes: &[u8], keys: &mut [Key], order: &mut [usize]) -> bool
+    requires rows { 8 + 8 * length keys.old ≤ length words.now }
+    requires places { length order.old ≡ length keys.old }
+    requires leading { Leading words.now (length keys.old) }
+    ensures { Decided (NamesDiffer words.now bytes.now (length keys.old)) result }
 {
-    list_keys(words, n, keys);
-    keys_differ(&mut order[..n], keys, bytes)
-}
-
-// The table, with marks that are zero at first and room for the keys.
-fn table(
-    words: &[u64],
-    map: &[u8],
-    bytes: &[u8],
-    capacity: usize,
-    n: usize,
-    marks: &mut [u8],
-    keys: &mut [u64],
-    order: &mut [u64],
-) -> bool
-    requires capacity_in_bounds { (8 + 8 * capacity ≤ length words.now) × (n ≤ capacity) }
-    requires capacity_in_bounds_2 { (capacity ≤ length marks.old) × (3 * n ≤ length keys.old) × (n ≤ length order.old) }
-    requires by_index { (s : ℕ) → get_or marks.old s 0 ≡ 0 }
-    requires apart { Apart (shown words.now 7 8) (length bytes.now) capacity }
-    ensures { Decided (TableGood words.now map.now bytes.now capacity n) result }
-{
-    if !entries_good(words, map, capacity, n) {
-        return false;
-    }
-    if !heap_sound_free::mark_column(words, 5, n, capacity, marks) {
-        return false;
-    }
-    names_differ(words, bytes, n, keys, order)
+    list_keys(words, keys);
+    keys_differ(order, keys, bytes)
 }
 
 // "the symbol table has one entry a (name, scope), each leading to an Allocated slot with that name, no two to the same slot"
@@ -125,9 +85,9 @@ pub fn table_sound(words: &[u64], map: &[u8], bytes: &[u8], capacity: usize, n: 
     ensures { Decided (TableGood words.now map.now bytes.now capacity n) result }
 {
     let mut marks = [0u8; 4096];
-    let mut keys = [0u64; 12288];
-    let mut order = [0u64; 4096];
-    table(
-        words, map, bytes, capacity, n, &mut marks, &mut keys, &mut order,
-    )
+    let mut keys = [Key::default(); 4096];
+    let mut order = [0; 4096];
+    entries_good(words, map, capacity, n)
+        && heap_sound_free::mark_column(words, 5, n, capacity, &mut marks)
+        && names_differ(words, bytes, &mut keys[..n], &mut order[..n])
 }

@@ -12,8 +12,8 @@ use Rattle.rules.specs.Put.{Put, making, put_as, make_symbol, put_symbol, put_ru
 use Rattle.leaf_rooms.specs.Rooms.{Appended}
 use Rattle.leaf_symbols.specs.Table.{Tabled, bytes_used, count_of, entry, added, found_in, slot_of}
 use Rattle.leaf_find.specs.Finds.{shown_found}
-use Rattle.leaf_find.specs.declared.Found.{Found}
-use Rattle.leaf_find.specs.declared.Found.TheVariants.{At, Missing}
+use Rattle.std.specs.Prelude as code
+use Rattle.std.specs.Prelude.{Some, None}
 use Rattle.leaf_symbols.proofs.TableLaws.{tabled, bytes_within, found_is, row_left, added_is}
 use Rattle.heap_steps.specs.Steps.{CellMade, Left, SymbolOpen, SymbolMade, SymbolReady, SymbolPut}
 use Rattle.heap_steps.proofs.Sizes.{alloc_taken}
@@ -67,12 +67,12 @@ module _ (n room : ℕ) (h : Heap) (name : List ℕ) (scope : ℕ) (words map by
       subst₂ (λ (w b : List ℕ). bytes_used w ≤ length b) (sym o.standing.words_are) (sym o.standing.bytes_are)
       (bytes_within n room h o.bytes_fit)
 
-  is_found : (r : Found) → shown_found r ≡ found_in words bytes name scope → shown_found r ≡ slot_of (found h name scope)
+  is_found : (r : code.Option ℕ) → shown_found r ≡ found_in words bytes name scope → shown_found r ≡ slot_of (found h name scope)
   is_found r e =
       e ∙ (λ i. found_in (o.standing.words_are i) (o.standing.bytes_are i) name scope) ∙ found_is n room h o.table_fits name scope
 
   pub missing : none ≡ found_in words bytes name scope → found h name scope ≡ none
-  missing e = go (found h name scope) (is_found Missing e)
+  missing e = go (found h name scope) (is_found None e)
     where
       go : (x : Option Entry) → none ≡ slot_of x → x ≡ none
       go none q = refl
@@ -95,7 +95,7 @@ module _ (n room : ℕ) (h : Heap) (name : List ℕ) (scope : ℕ) (words map by
 
   pub was_found : (s : ℕ) → some s ≡ found_in words bytes name scope → SymbolPut n room h name scope s words map bytes
   unfolding put_rules put_by
-  was_found s e = go (found h name scope) refl (is_found (At s) e)
+  was_found s e = go (found h name scope) refl (is_found (Some s) e)
     where
       go : (x : Option Entry) → found h name scope ≡ x → some s ≡ slot_of x → SymbolPut n room h name scope s words map bytes
       go none q p = absurd (none_some (sym p))

@@ -61,10 +61,9 @@ pub fn put_symbol(
     requires { (n : ℕ) × (room : ℕ) × (h : Heap) × SymbolReady n room h name.now scope words.old map.old bytes.old }
     ensures { (n room : ℕ) (h : Heap) → SymbolReady n room h name.now scope words.old map.old bytes.old → SymbolPut n room h name.now scope result words.new map.new bytes.new }
 {
-    let found = leaf_find::find(words, bytes, name, scope);
-    match found {
-        leaf_find::Found::At(s) => s,
-        leaf_find::Found::Missing => make_symbol(words, map, bytes, name, scope),
+    match leaf_find::find(words, bytes, name, scope) {
+        Some(s) => s,
+        None => make_symbol(words, map, bytes, name, scope),
     }
 }
 
@@ -95,8 +94,7 @@ pub fn in_slot(words: &mut [u64], map: &mut [u8], v: Value) -> usize
     requires { (n : ℕ) × (h : Heap) × SlotOpen n h (value_of v) words.old map.old }
     ensures { (n : ℕ) (h : Heap) → SlotOpen n h (value_of v) words.old map.old → SlotMade n h (value_of v) result words.new map.new }
 {
-    let p = place_of(v);
-    match p {
+    match place_of(v) {
         Place::At(s) => s,
         Place::New(c) => new_cell(words, map, c),
     }
@@ -107,14 +105,9 @@ pub fn copy_cell(words: &mut [u64], slot: usize, v: Value)
     requires { (n : ℕ) × (h : Heap) × CopyOpen n h slot (value_of v) words.old }
     ensures { (n : ℕ) (h : Heap) → CopyOpen n h slot (value_of v) words.old → words.new ≡ words_of n (with_cell h slot (shown h (value_of v))) }
 {
-    let p = place_of(v);
-    match p {
-        Place::At(s) => {
-            let c = leaf_cells::load(words, s);
-            leaf_cells::store(words, slot, c);
-        }
-        Place::New(c) => {
-            leaf_cells::store(words, slot, c);
-        }
-    }
+    let c = match place_of(v) {
+        Place::At(s) => leaf_cells::load(words, s),
+        Place::New(c) => c,
+    };
+    leaf_cells::store(words, slot, c);
 }

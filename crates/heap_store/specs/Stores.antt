@@ -1,24 +1,18 @@
--- What a store answers, in the rules' words, and what it is behind the doors' tests. Assumes nothing.
-use Rattle.std.specs.Prelude.{◌≡◌, true, [], ◌∷◌, ℕ}
+-- Where an element is, in the rules' words, and what a store is behind the doors' tests. Assumes nothing.
+use Rattle.std.specs.Prelude.{◌≡◌, true, [], ◌∷◌, ℕ, Some, None}
+use Rattle.std.specs.Prelude as code
 use Rattle.std.proofs.Math.Option.{Option, none, some}
-use Rattle.rules.specs.Refusals.{Answer, accepted, refused, wrong_cell, ◌⇒◌, unless, refusals}
+use Rattle.rules.specs.Refusals.{accepted, refused, wrong_cell, ◌⇒◌, unless, refusals}
 use Rattle.rules.specs.Cells.{Cell, is_symbol}
 use Rattle.rules.specs.Heap.{cell_at, in_use, with_cell}
 use Rattle.rules.specs.Layout.{Lent, rooms_of, heap_of, lent_of, layout_rules}
 use Rattle.rules.specs.Sound.{sound}
 use Rattle.rules.specs.Calls.{Stored, stored}
-use Rattle.heap_store.specs.declared.StoreAnswer.{StoreAnswer}
-use Rattle.heap_store.specs.declared.StoreAnswer.TheVariants.{Done, WrongCell}
-use Rattle.heap_store.specs.declared.ElementPlace.{ElementPlace}
-use Rattle.heap_store.specs.declared.ElementPlace.TheVariants.{At, Missing}
 
-abbrev pub store_told : StoreAnswer → Answer (Unit {0})
-store_told Done = accepted tt
-store_told WrongCell = refused wrong_cell
-
-abbrev pub place_answer : ElementPlace → Option ℕ
-place_answer (At p) = some p
-place_answer Missing = none
+-- an element's place, in the rules' words
+abbrev pub place_of : code.Option ℕ → Option ℕ
+place_of (Some p) = some p
+place_of None = none
 
 -- what the doors have tested: 20, and 14 of the slot that is stored into
 pub record Ready (l : Lent) (s : ℕ) : Type 0 where

@@ -11,25 +11,17 @@ ghost use Rattle.rules.specs.Sound.{vector_block};
 ghost use Rattle.rules.specs.Calls.{stored, element_place, store_element};
 ghost use Rattle.leaf_cells.specs.Cells.{cell_of};
 ghost use Rattle.leaf_cells.specs.Elements.{value_of};
+ghost use Rattle.refusals.specs.Told.{answer_of};
 ghost use Rattle.heap_sound_rows.specs.Rows.{lists};
-ghost use Rattle.heap_store.specs.Stores.{store_told, place_answer, Ready, store_cell};
+ghost use Rattle.heap_store.specs.Stores.{place_of, Ready, store_cell};
 
 use leaf_cells::{VCell, Value};
-
-// A store is done, or 15.
-#[derive(Clone, Copy)]
-pub enum StoreAnswer {
-    Done,
-    WrongCell,
-}
+use refusals::Refusal;
 
 fn is_symbol(c: VCell) -> bool
     ensures { result ≡ is_symbol (cell_of c) }
 {
-    match c {
-        VCell::Symbol(_, _) => true,
-        _ => false,
-    }
+    matches!(c, VCell::Symbol(_, _))
 }
 
 // Stores a cell into a slot in use that holds no symbol.
@@ -40,37 +32,25 @@ pub fn cell_store(
     elems: &[u64],
     slot: usize,
     new: VCell,
-) -> StoreAnswer
+) -> Result<(), Refusal>
     requires { Ready (lists words.old map.now bytes.now elems.now) slot }
-    ensures { stored (store_told result) (lists words.new map.now bytes.now elems.now) ≡ store_cell (lists words.old map.now bytes.now elems.now) slot (cell_of new) }
+    ensures { stored (answer_of result) (lists words.new map.now bytes.now elems.now) ≡ store_cell (lists words.old map.now bytes.now elems.now) slot (cell_of new) }
 {
     if is_symbol(leaf_cells::load(words, slot)) {
-        return StoreAnswer::WrongCell;
+        return Err(Refusal::WrongCell);
     }
     leaf_cells::store(words, slot, new);
-    StoreAnswer::Done
+    Ok(())
 }
 
-// Where an element is in the element arena.
-#[derive(Clone, Copy)]
-enum ElementPlace {
-    At(usize),
-    Missing,
-}
-
-// "not a vector or no such element"
-fn element_place(c: VCell, k: u64) -> ElementPlace
+// Where an element is in the element arena; none: "not a vector or no such element".
+fn element_place(c: VCell, k: u64) -> Option<usize>
     requires { (vector_block (cell_of c)).place + (vector_block (cell_of c)).size < 2 ^ 64 }
-    ensures { place_answer result ≡ element_place (cell_of c) k }
+    ensures { place_of result ≡ element_place (cell_of c) k }
 {
     match c {
-        VCell::Vector(place, size) => {
-            if size as u64 <= k {
-                return ElementPlace::Missing;
-            }
-            ElementPlace::At(place + k as usize)
-        }
-        _ => ElementPlace::Missing,
+        VCell::Vector(place, size) if k < size as u64 => Some(place + k as usize),
+        _ => None,
     }
 }
 
@@ -83,16 +63,13 @@ pub fn element_store(
     slot: usize,
     k: u64,
     new: Value,
-) -> StoreAnswer
+) -> Result<(), Refusal>
     requires { Ready (lists words.now map.now bytes.now elems.old) slot }
-    ensures { stored (store_told result) (lists words.now map.now bytes.now elems.new) ≡ store_element (lists words.now map.now bytes.now elems.old) (heap_of (lists words.now map.now bytes.now elems.old)) slot k (value_of new) }
+    ensures { stored (answer_of result) (lists words.now map.now bytes.now elems.new) ≡ store_element (lists words.now map.now bytes.now elems.old) (heap_of (lists words.now map.now bytes.now elems.old)) slot k (value_of new) }
 {
-    let place = element_place(leaf_cells::load(words, slot), k);
-    match place {
-        ElementPlace::At(at) => {
-            leaf_cells::store_element(elems, at, new);
-            StoreAnswer::Done
-        }
-        ElementPlace::Missing => StoreAnswer::WrongCell,
-    }
+    let Some(at) = element_place(leaf_cells::load(words, slot), k) else {
+        return Err(Refusal::WrongCell);
+    };
+    leaf_cells::store_element(elems, at, new);
+    Ok(())
 }

@@ -7,21 +7,21 @@ ghost use Rattle.std.specs.Prelude.{◌≡◌};
 ghost use Rattle.heap_sweep.specs.Sweeps.{swept, sweep_slot, sweep_all, sweep_dropped, CanSlot, CanSweep, CanDrop};
 
 use leaf_cells::VCell;
+use leaf_map::State;
 
 // One slot: a marked one is Allocated again, another that is Allocated is freed.
 fn sweep_slot(words: &mut [u64], map: &mut [u8], slot: usize)
     requires { CanSlot words.old map.old slot }
     ensures { swept words.new map.new ≡ sweep_slot slot (swept words.old map.old) }
 {
-    let state = leaf_map::get(map, slot);
-    if state == leaf_map::USED {
-        leaf_map::set(map, slot, leaf_map::ALLOCATED);
-        return;
-    }
-    if state == leaf_map::ALLOCATED {
-        leaf_map::set(map, slot, leaf_map::FREE);
-        leaf_free::push(words, slot);
-        leaf_cells::store(words, slot, VCell::Undefined);
+    match leaf_map::get(map, slot) {
+        State::Used => leaf_map::set(map, slot, State::Allocated),
+        State::Allocated => {
+            leaf_map::set(map, slot, State::Free);
+            leaf_free::push(words, slot);
+            leaf_cells::store(words, slot, VCell::Undefined);
+        }
+        State::Free | State::Three => {}
     }
 }
 
@@ -31,10 +31,8 @@ fn sweep_slots(words: &mut [u64], map: &mut [u8])
     ensures { swept words.new map.new ≡ sweep_all (swept words.old map.old) }
 {
     let capacity = words[1] as usize;
-    let mut slot = 0;
-    while slot < capacity {
+    for slot in 0..capacity {
         sweep_slot(words, map, slot);
-        slot += 1;
     }
 }
 

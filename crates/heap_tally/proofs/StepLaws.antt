@@ -1,122 +1,64 @@
 -- What each small function of the pass finds, from its tests. Assumes nothing.
-use mathlib.Core.Path.{◌≡◌, sym, ap, ◌∙◌}
+use mathlib.Core.Path.{◌≡◌, refl, sym, ap, ◌∙◌}
 use mathlib.Core.Bool.{Bool, true, false, not}
 use mathlib.Core.List.{List, [], ◌∷◌, ◌++◌}
 use mathlib.Core.Option.{some}
 use Prim.Native.Nat.{ℕ, suc, ◌+◌, ◌≤◌, ◌<◌}
 use native.Mathlib.Omega.{arith}
 use native.Mathlib.Numerals.{add-one}
-use borrow.Author.Tests.{lt-ltb, le-ltb, lt-leb, le-leb, eq-eqb, ne_eqb}
+use borrow.Author.Tests.{ltb-true, ltb-false, lt-ltb, le-ltb, lt-leb, le-leb}
 use lib.Dec.{leb, ltb}
-use lib.ListN.{length, get_or, take, drop, set, length-set, length-drop}
-use lib.Seq.{drop-cons, get_or-take, length-take-le, take-suc-set}
+use lib.ListN.{length}
 use Rattle.laws.specs.Basics.{choose, both, either, member, basics}
-use Rattle.laws.proofs.Lists.{no_elements}
+use Rattle.laws.proofs.Members.{eqb_sym}
+use Rattle.rules.proofs.Nodes.{choose_true, choose_false}
+use mathlib.Core.Logic.{◌⊎◌, inl, inr}
+use Rattle.std.specs.List.{list_any}
+use Rattle.std.specs.Prelude.{nat_eq, ◌||◌, min}
 use Rattle.rules.specs.Refusals.{over_limit}
 use Rattle.rules.specs.Nodes.{Node, reads}
 use Rattle.rules.specs.Datum.{node_within, datum_rules}
 use Rattle.rules.proofs.Flat.{follow}
 use Rattle.leaf_nodes.specs.declared.Node as leaf
-use Rattle.leaf_nodes.specs.declared.Node.TheVariants.{Faulty, Plain, String, Symbol, Ident, Ref, Pair, Vector, Def}
-use Rattle.heap_tally.specs.declared.Tally as code
+use Rattle.leaf_nodes.specs.declared.Node.TheVariants.{Plain, String, Symbol, Ident, Ref, Pair, Vector, Def}
 use Rattle.heap_tally.specs.Pass.{limits}
-use Rattle.heap_tally.specs.Pass.{Tally, tally, counted, mentioned, labelled, stepped, judged, capped, tally_of, Shown, Kept, Tells, pass_rules}
-
--- ---- has
-
--- the label is looked for among the first `known`
-module _ (label : ℕ) (t : code.Tally) (k : Kept t) (i : ℕ) where
-  abbrev mine : List ℕ
-  mine = take t.known t.labels
-
-  size : length mine ≡ t.known
-  size = length-take-le t.known t.labels (omega (arith, k.room, k.whole))
-
-  here : i < t.known → drop i mine ≡ get_or t.labels i 0 ∷ drop (suc i) mine
-  here h =
-      drop-cons mine i 0 (omega (arith, size))
-      ∙ ap (λ (x : ℕ). x ∷ drop (suc i) mine) (get_or-take t.known t.labels i 0 h)
-
-  pub label_found : i < t.known → get_or t.labels i 0 ≡ label → member label (drop i mine) ≡ true
-  unfolding basics
-  label_found h e =
-      ap (λ (l : List ℕ). member label l) (here h)
-      ∙ ap (λ (b : Bool). either b (member label (drop (suc i) mine))) (eq-eqb label (get_or t.labels i 0) (sym e))
-
-  pub label_not_here : i < t.known → (get_or t.labels i 0 ≡ label → ⊥) → member label (drop i mine) ≡ member label (drop (i + 1) mine)
-  unfolding basics
-  label_not_here h ne =
-      ap (λ (l : List ℕ). member label l) (here h)
-      ∙ ap (λ (b : Bool). either b (member label (drop (suc i) mine))) (ne_eqb label (get_or t.labels i 0) (λ e. ne (sym e)))
-      ∙ ap (λ (n : ℕ). member label (drop n mine)) (sym (add-one i))
-
-  pub label_nowhere : t.known ≤ i → member label (drop i mine) ≡ false
-  unfolding basics
-  label_nowhere h = ap (λ (l : List ℕ). member label l) (no_elements (drop i mine) (omega (arith, size, length-drop i mine)))
+use Rattle.heap_tally.specs.Pass.{Tally, tally, counted, mentioned, labelled, stepped, judged, capped, Shown, pass_rules}
 
 -- ---- mention
 
-module _ (t : code.Tally) (k : Kept t) (refers : Bool) (label : ℕ) where
-  pub mention_known : member label (tally_of t).labels ≡ true → Tells t (mentioned refers label (tally_of t))
+-- the library's search for a number is the rules' membership
+pub member_any : (label : ℕ) (ls : List ℕ) → list_any (λ x. nat_eq x label) ls ≡ member label ls
+unfolding basics
+member_any label [] = refl
+member_any label (l ∷ ls) = λ i. either (eqb_sym l label i) (member_any label ls i)
+
+either_or : (a b : Bool) → (a || b) ≡ either b a
+either_or true true = refl
+either_or true false = refl
+either_or false true = refl
+either_or false false = refl
+
+module _ (t : Tally) (refers : Bool) (label : ℕ) where
+  pub mention_known : member label t.labels ≡ true → t ≡ mentioned refers label t
   unfolding pass_rules
-  mention_known h =
-      record {
-        is =
-            sym
-            (ap
-            (λ (b : Bool).
-            choose b (tally_of t)
-            (choose (ltb (length (tally_of t).labels) 64)
-            (tally t.nodes t.over (either refers t.early) ((tally_of t).labels ++ (label ∷ [])))
-            (tally t.nodes true t.early (tally_of t).labels)))
-            h);
-        kept = k;
-      }
+  mention_known h = sym (choose_true _ _ _ h)
 
-  module _ (h : member label (tally_of t).labels ≡ false) where
-    new : (b : Bool) → ltb (length (tally_of t).labels) 64 ≡ b → mentioned refers label (tally_of t) ≡ choose b (tally t.nodes t.over (either refers t.early) ((tally_of t).labels ++ (label ∷ []))) (tally t.nodes true t.early (tally_of t).labels)
+  module _ (h : member label t.labels ≡ false) where
+    pub mention_full : length t.labels ≡ 64 → tally t.nodes true t.early t.labels ≡ mentioned refers label t
     unfolding pass_rules
-    new b e =
-        λ i.
-        choose (h i) (tally_of t)
-        (choose (e i)
-        (tally t.nodes t.over (either refers t.early) ((tally_of t).labels ++ (label ∷ [])))
-        (tally t.nodes true t.early (tally_of t).labels))
+    mention_full e = sym (choose_false _ _ _ h ∙ choose_false _ _ _ (le-ltb (length t.labels) 64 (omega arith)))
 
-    known_size : length (take t.known t.labels) ≡ t.known
-    known_size = length-take-le t.known t.labels (omega (arith, k.room, k.whole))
+    pub mention_new : length t.labels < 64 → tally t.nodes t.over (t.early || refers) (t.labels ++ (label ∷ [])) ≡ mentioned refers label t
+    unfolding pass_rules
+    mention_new e =
+        ap (λ (b : Bool). tally t.nodes t.over b (t.labels ++ (label ∷ []))) (either_or t.early refers)
+        ∙ sym (choose_false _ _ _ h ∙ choose_true _ _ _ (lt-ltb (length t.labels) 64 e))
 
-    pub mention_full : t.known ≡ 64 → Tells (record { nodes = t.nodes; over = true; early = t.early; known = t.known; labels = t.labels }) (mentioned refers label (tally_of t))
-    mention_full e =
-        record {
-          is = sym (new false (le-ltb (length (take t.known t.labels)) 64 (omega (arith, known_size))));
-          kept = record { room = k.room; whole = k.whole };
-        }
+-- ---- step
 
-    pub mention_new : (early : Bool) → (t.known ≡ 64 → ⊥) → early ≡ either refers t.early → Tells (record { nodes = t.nodes; over = t.over; early = early; known = t.known + 1; labels = set t.labels t.known label }) (mentioned refers label (tally_of t))
-    mention_new early ne e =
-        let below : t.known < 64 = omega (arith, k.room) in
-        record {
-          is =
-              (λ i. tally t.nodes t.over (e i) (grown i))
-              ∙ sym (new true (lt-ltb (length (take t.known t.labels)) 64 (omega (arith, known_size))));
-          kept = record { room = omega arith; whole = length-set t.labels t.known label ∙ k.whole };
-        }
-      where
-        grown : take (t.known + 1) (set t.labels t.known label) ≡ take t.known t.labels ++ (label ∷ [])
-        grown =
-            ap (λ (n : ℕ). take n (set t.labels t.known label)) (add-one t.known)
-            ∙ take-suc-set t.labels t.known label (omega (arith, k.room, k.whole))
-
--- ---- count
-
-pub count_told : (t : code.Tally) (within over : Bool) → Kept t → over ≡ either (not within) t.over → Tells (record { nodes = t.nodes + 1; over = over; early = t.early; known = t.known; labels = t.labels }) (counted within (tally_of t))
+pub counted_is : (t : Tally) (within : Bool) → tally (t.nodes + 1) (t.over || not within) t.early t.labels ≡ counted within t
 unfolding pass_rules
-count_told t within over k e =
-    record {
-      is = λ i. tally (add-one t.nodes i) (e i) t.early (take t.known t.labels);
-      kept = record { room = k.room; whole = k.whole };
-    }
+counted_is t within = λ i. tally (add-one t.nodes i) (either_or t.over (not within) i) t.early t.labels
 
 -- ---- by the node
 
@@ -125,7 +67,6 @@ node_is e = cc
 
 -- the code's answers, by the node by value
 abbrev pub within_by : leaf.Node → Bool
-within_by (Faulty f) = false
 within_by (Plain v) = true
 within_by (String k) = leb k 4096
 within_by (Symbol k) = leb k 255
@@ -136,7 +77,6 @@ within_by (Vector k) = leb k 1024
 within_by (Def l) = true
 
 abbrev pub follow_by : leaf.Node → ℕ
-follow_by (Faulty f) = 0
 follow_by (Plain v) = 0
 follow_by (String k) = 0
 follow_by (Symbol k) = 0
@@ -147,7 +87,6 @@ follow_by (Vector k) = k
 follow_by (Def l) = 1
 
 abbrev pub label_by : leaf.Node → Tally → Tally
-label_by (Faulty f) t = t
 label_by (Plain v) t = t
 label_by (String k) t = t
 label_by (Symbol k) t = t
@@ -162,7 +101,6 @@ no_node e = let z : ◌≡◌ {A = ℕ} 0 1 = cc in omega arith
 
 pub within_shown : (x : leaf.Node) (n : Node) → Shown x n → within_by x ≡ node_within n
 unfolding datum_rules
-within_shown (Faulty f) n s = absurd (no_node s.is)
 within_shown (Plain v) n s = ap node_within (node_is s.is)
 within_shown (String k) n s = ap (λ (k : ℕ). leb k 4096) (sym s.long) ∙ ap node_within (node_is s.is)
 within_shown (Symbol k) n s = ap (λ (k : ℕ). leb k 255) (sym s.long) ∙ ap node_within (node_is s.is)
@@ -174,7 +112,6 @@ within_shown (Def l) n s = ap node_within (node_is s.is)
 
 pub follow_shown : (x : leaf.Node) (n : Node) → Shown x n → follow_by x ≡ follow n
 unfolding follow
-follow_shown (Faulty f) n s = absurd (no_node s.is)
 follow_shown (Plain v) n s = ap follow (node_is s.is)
 follow_shown (String k) n s = ap follow (node_is s.is)
 follow_shown (Symbol k) n s = ap follow (node_is s.is)
@@ -186,7 +123,6 @@ follow_shown (Def l) n s = ap follow (node_is s.is)
 
 label_shown : (x : leaf.Node) (n : Node) (t : Tally) → Shown x n → label_by x t ≡ labelled n t
 unfolding pass_rules
-label_shown (Faulty f) n t s = absurd (no_node s.is)
 label_shown (Plain v) n t s = ap (λ (n : Node). labelled n t) (node_is s.is)
 label_shown (String k) n t s = ap (λ (n : Node). labelled n t) (node_is s.is)
 label_shown (Symbol k) n t s = ap (λ (n : Node). labelled n t) (node_is s.is)
@@ -203,29 +139,60 @@ as_within {x} e n s = ap within_by (sym e) ∙ within_shown x n s
 pub as_follow : {x y : leaf.Node} → x ≡ y → (n : Node) → Shown x n → follow_by y ≡ follow n
 as_follow {x} e n s = ap follow_by (sym e) ∙ follow_shown x n s
 
-pub as_step : {x y : leaf.Node} {r : code.Tally} (t : Tally) (w : Bool) (n : Node) → x ≡ y → Shown x n → w ≡ node_within n → Tells r (label_by y (counted w t)) → Tells r (stepped t n)
+pub as_step : {x y : leaf.Node} (t : Tally) (w : Bool) (n : Node) → x ≡ y → Shown x n → w ≡ node_within n → label_by y (counted w t) ≡ stepped t n
 unfolding pass_rules
-as_step {x} {y} {r} t w n e s q told =
-    record {
-      is =
-          told.is ∙ ap (λ (y : leaf.Node). label_by y (counted w t)) (sym e) ∙ ap (λ (w : Bool). label_by x (counted w t)) q
-          ∙ label_shown x n (counted (node_within n) t) s;
-      kept = told.kept;
-    }
+as_step {x} {y} t w n e s q =
+    ap (λ (y : leaf.Node). label_by y (counted w t)) (sym e) ∙ ap (λ (w : Bool). label_by x (counted w t)) q
+    ∙ label_shown x n (counted (node_within n) t) s
 
-pub as_mention : {u r : code.Tally} {t : Tally} (refers : Bool) (l : ℕ) → Tells u t → Tells r (mentioned refers l (tally_of u)) → Tells r (mentioned refers l t)
-as_mention refers l p q = record { is = q.is ∙ ap (λ (t : Tally). mentioned refers l t) p.is; kept = q.kept }
+-- a name, a symbol's or an identifier's
+pub as_name : (x : leaf.Node) (n : Node) (k : ℕ) → (x ≡ Symbol k) ⊎ ((i : ℕ) × (x ≡ Ident i k)) → Shown x n → leb k 255 ≡ node_within n
+as_name x n k (inl e) s = as_within e n s
+as_name x n k (inr (i, e)) s = as_within e n s
+
+-- what is none of these keeps no number
+pub all_within : (x : leaf.Node) (n : Node) → ((k : ℕ) → x ≡ String k → ⊥) → ((k : ℕ) → x ≡ Symbol k → ⊥) → ((s k : ℕ) → x ≡ Ident s k → ⊥) → ((k : ℕ) → x ≡ Vector k → ⊥) → Shown x n → true ≡ node_within n
+all_within (Plain v) n a b c d s = within_shown (Plain v) n s
+all_within (String k) n a b c d s = absurd (a k refl)
+all_within (Symbol k) n a b c d s = absurd (b k refl)
+all_within (Ident i k) n a b c d s = absurd (c i k refl)
+all_within (Ref l) n a b c d s = within_shown (Ref l) n s
+all_within Pair n a b c d s = within_shown Pair n s
+all_within (Vector k) n a b c d s = absurd (d k refl)
+all_within (Def l) n a b c d s = within_shown (Def l) n s
+
+-- what is none of these is followed by none
+pub none_follow : (x : leaf.Node) (n : Node) → (x ≡ Pair → ⊥) → ((k : ℕ) → x ≡ Vector k → ⊥) → ((l : ℕ) → x ≡ Def l → ⊥) → Shown x n → 0 ≡ follow n
+none_follow (Plain v) n a b c s = follow_shown (Plain v) n s
+none_follow (String k) n a b c s = follow_shown (String k) n s
+none_follow (Symbol k) n a b c s = follow_shown (Symbol k) n s
+none_follow (Ident i k) n a b c s = follow_shown (Ident i k) n s
+none_follow (Ref l) n a b c s = follow_shown (Ref l) n s
+none_follow Pair n a b c s = absurd (a refl)
+none_follow (Vector k) n a b c s = absurd (b k refl)
+none_follow (Def l) n a b c s = absurd (c l refl)
+
+-- what is none of these mentions no label
+pub label_stays : (x : leaf.Node) (t : Tally) (w : Bool) (n : Node) → ((l : ℕ) → x ≡ Ref l → ⊥) → ((l : ℕ) → x ≡ Def l → ⊥) → Shown x n → w ≡ node_within n → counted w t ≡ stepped t n
+label_stays (Plain v) t w n a b s q = as_step t w n refl s q
+label_stays (String k) t w n a b s q = as_step t w n refl s q
+label_stays (Symbol k) t w n a b s q = as_step t w n refl s q
+label_stays (Ident i k) t w n a b s q = as_step t w n refl s q
+label_stays (Ref l) t w n a b s q = absurd (a l refl)
+label_stays Pair t w n a b s q = as_step t w n refl s q
+label_stays (Vector k) t w n a b s q = as_step t w n refl s q
+label_stays (Def l) t w n a b s q = absurd (b l refl)
 
 -- ---- the data wanted
 
-module _ (left w : ℕ) where
-  pub past_left : left < w → left + 1 ≡ capped left w
-  unfolding pass_rules
-  past_left h = add-one left ∙ sym (ap (λ (b : Bool). choose b (suc left) w) (lt-ltb left w h))
-
-  pub in_left : w ≤ left → w ≡ capped left w
-  unfolding pass_rules
-  in_left h = sym (ap (λ (b : Bool). choose b (suc left) w) (le-ltb left w h))
+-- the smaller of a number and one more than the bytes left
+pub capped_is : (left w : ℕ) → min w (left + 1) ≡ capped left w
+unfolding pass_rules
+capped_is left w = go (ltb left w) refl
+  where
+    go : (b : Bool) → ltb left w ≡ b → min w (left + 1) ≡ choose b (suc left) w
+    go true e = let h : left < w = ltb-true _ _ e in omega arith
+    go false e = let h : w ≤ left = ltb-false _ _ e in omega arith
 
 -- ---- the verdict
 

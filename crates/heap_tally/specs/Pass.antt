@@ -1,5 +1,5 @@
 -- One pass over a datum's nodes: what is tallied of them, node by node. Assumes nothing.
-use Rattle.std.specs.Prelude.{◌≡◌, Bool, true, false, not, List, [], ◌∷◌, ◌++◌, ℕ, suc, ◌≤◌, leb, ltb, length, take}
+use Rattle.std.specs.Prelude.{◌≡◌, Bool, true, false, not, List, [], ◌∷◌, ◌++◌, ℕ, suc, leb, ltb, length}
 use Rattle.std.proofs.Math.Option.{Option, none, some}
 use Rattle.laws.specs.Basics.{choose, both, either, member}
 use Rattle.rules.specs.Numbers.{most_nodes, most_labels}
@@ -63,7 +63,7 @@ capped left w = choose (ltb left w) (suc left) w
 
 -- the tally that the code carries
 abbrev pub tally_of : code.Tally → Tally
-tally_of t = tally t.nodes t.over t.early (take t.known t.labels)
+tally_of t = tally t.nodes t.over t.early t.labels.items
 
 -- a node by value shows a node of the rules, with a text of its length
 pub record Shown (x : leaf.Node) (n : Node) : Type 0 where
@@ -71,16 +71,6 @@ pub record Shown (x : leaf.Node) (n : Node) : Type 0 where
   pub rest : List ℕ
   pub long : length text ≡ text_length x
   pub is : shown x text rest ≡ reads n rest
-
--- the labels are in their room
-pub record Kept (t : code.Tally) : Type 0 where
-  pub room : t.known ≤ 64
-  pub whole : length t.labels ≡ 64
-
--- a tally by value stands for this one
-pub record Tells (r : code.Tally) (t : Tally) : Type 0 where
-  pub is : tally_of r ≡ t
-  pub kept : Kept r
 
 unfoldable pub pass_rules : Unit {0}
 unfolding counted mentioned labelled stepped judged capped

@@ -227,21 +227,3 @@ left path w s known marks m small off met =
 pub on_path : (path : List ℕ) (w : Walk) (s known : ℕ) (marks : List ℕ) → Marked (s ∷ path) w known marks → 2 ≤ get_or marks s 0
 unfolding mark
 on_path path w s known marks m = omega (arith, m.marks_are s, state_path (s ∷ path) w.met s (first_member s path))
-
--- ---- what the code does with a slot that was met
-
-pub met_again_given : (marks : List ℕ) (known s : ℕ) → get_or marks s 0 ≡ 2 → MetAgain marks known s (set marks s (4 * known + 6)) (known + 1)
-met_again_given marks known s e =
-    let b = sym (eq-eqb (get_or marks s 0) 2 e) in
-    record {
-      marks_are = ap (λ (t : Bool). choose t (set marks s (4 * known + 6)) marks) b;
-      count_is = ap (λ (t : Bool). choose t (known + 1) known) b;
-    }
-
-pub met_again_not : (marks : List ℕ) (known s : ℕ) → (get_or marks s 0 ≡ 2 → ⊥) → MetAgain marks known s marks known
-met_again_not marks known s d =
-    let b = sym (ne_eqb (get_or marks s 0) 2 d) in
-    record {
-      marks_are = ap (λ (t : Bool). choose t (set marks s (4 * known + 6)) marks) b;
-      count_is = ap (λ (t : Bool). choose t (known + 1) known) b;
-    }

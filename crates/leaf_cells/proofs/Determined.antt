@@ -3,6 +3,8 @@
 use mathlib.Core.Path.{◌≡◌, refl, sym, ap, ◌∙◌}
 use mathlib.Core.List.{List}
 use mathlib.Core.Option.{Option, none, some}
+use Rattle.std.specs.Prelude.{Some, None}
+use Rattle.std.specs.Prelude as code
 use Prim.Native.Nat.{ℕ}
 use lib.ListN.{get_or}
 use Rattle.rules.specs.Cells.{undefined, nil, eof, void, bool, char, number, slot, scalar, Cell, plain, pair, symbol, string, vector}
@@ -11,8 +13,6 @@ use Rattle.leaf_cells.specs.declared.VCell.{VCell}
 use Rattle.leaf_cells.specs.declared.VCell.TheVariants as cell
 use Rattle.leaf_cells.specs.declared.Value.{Value}
 use Rattle.leaf_cells.specs.declared.Value.TheVariants as value
-use Rattle.leaf_cells.specs.declared.Lookup.{Lookup}
-use Rattle.leaf_cells.specs.declared.Lookup.TheVariants.{Found, NotInUse}
 use Rattle.leaf_cells.specs.declared.Words.{Words}
 use Rattle.leaf_cells.specs.declared.Change.{Change}
 use Rattle.leaf_cells.specs.declared.ElementChange.{ElementChange}
@@ -54,17 +54,17 @@ one_cell x y e = sym (cell_back x) ∙ ap from_cell e ∙ cell_back y
 
 -- ---- a lookup
 
-from_option : Option Cell → Lookup
+from_option : Option Cell → code.Option VCell
 unfolding from_cell
-from_option none = NotInUse
-from_option (some c) = Found (from_cell c)
+from_option none = None
+from_option (some c) = Some (from_cell c)
 
-lookup_back : (x : Lookup) → from_option (lookup_of x) ≡ x
+lookup_back : (x : code.Option VCell) → from_option (lookup_of x) ≡ x
 unfolding from_option
-lookup_back (Found c) = ap Found (cell_back c)
-lookup_back NotInUse = refl
+lookup_back (Some c) = ap Some (cell_back c)
+lookup_back None = refl
 
-pub one_lookup : (x y : Lookup) → lookup_of x ≡ lookup_of y → x ≡ y
+pub one_lookup : (x y : code.Option VCell) → lookup_of x ≡ lookup_of y → x ≡ y
 one_lookup x y e = sym (lookup_back x) ∙ ap from_option e ∙ lookup_back y
 
 -- ---- values

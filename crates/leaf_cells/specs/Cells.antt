@@ -1,5 +1,6 @@
 -- What a cell by value means in the rules' words, and where it stands in the words. Assumes nothing.
-use Rattle.std.specs.Prelude.{◌≡◌, List, ℕ, ◌+◌, ◌*◌, ltb, get_or}
+use Rattle.std.specs.Prelude.{◌≡◌, List, ℕ, ◌+◌, ◌*◌, ltb, get_or, Some, None}
+use Rattle.std.specs.Prelude as code
 use Rattle.std.proofs.Math.Option.{Option, none, some}
 use Rattle.laws.specs.Basics.{choose, both}
 use Rattle.rules.specs.Cells.{undefined, nil, eof, void, bool, char, number, block, Cell, plain, pair, symbol, string, vector}
@@ -7,8 +8,6 @@ use Rattle.rules.specs.Map.{is_allocated}
 use Rattle.rules.specs.Layout.{cell_words, cell_from}
 use Rattle.leaf_rooms.specs.Rooms.{stored}
 use Rattle.leaf_cells.specs.declared.Change.{Change}
-use Rattle.leaf_cells.specs.declared.Lookup.{Lookup}
-use Rattle.leaf_cells.specs.declared.Lookup.TheVariants.{Found, NotInUse}
 use Rattle.leaf_cells.specs.declared.VCell.{VCell}
 use Rattle.leaf_cells.specs.declared.VCell.TheVariants.{Undefined, Nil, Eof, Void, Bool, Char, Number, Pair, Symbol, String, Vector}
 
@@ -35,9 +34,9 @@ unfoldable pub loaded : List ℕ → ℕ → Cell
 loaded ws s = cell_from (row_word ws s 0) (row_word ws s 1) (row_word ws s 2)
 
 -- a lookup's answer in the rules' words
-abbrev pub lookup_of : Lookup → Option Cell
-lookup_of (Found c) = some (cell_of c)
-lookup_of NotInUse = none
+abbrev pub lookup_of : code.Option VCell → Option Cell
+lookup_of (Some c) = some (cell_of c)
+lookup_of None = none
 
 -- the slot is below the capacity, the header's word 1, and Allocated
 unfoldable pub looked_up : List ℕ → List ℕ → ℕ → Option Cell

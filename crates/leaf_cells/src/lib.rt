@@ -10,9 +10,11 @@ ghost use Rattle.leaf_rooms.specs.Rooms.{stored};
 ghost use Rattle.leaf_cells.specs.Cells.{cell_of, loaded, Stored, lookup_of, looked_up};
 ghost use Rattle.leaf_cells.specs.Elements.{value_of, loaded_element, ElementStored};
 
+use leaf_map::State;
+
 // "Cells kept: Bool, Char, Nil, Number, Pair, Symbol, String, Vector, Eof, Undefined, Void." A number is its 64 bits; a
 // pair has two slots; symbol, string and vector have a block's place and length.
-#[derive(Clone, Copy)]
+#[derive(Clone, Copy, Debug, PartialEq, Eq)]
 pub enum VCell {
     Undefined,
     Nil,
@@ -28,7 +30,7 @@ pub enum VCell {
 }
 
 // A cell's or an element's three words.
-#[derive(Clone, Copy)]
+#[derive(Clone, Copy, Debug, PartialEq, Eq)]
 pub struct Words {
     pub kind: u64,
     pub first: u64,
@@ -36,6 +38,8 @@ pub struct Words {
 }
 
 // The cell of three words; an unknown kind is taken for Undefined.
+// Kept: `From` is no plainer: this and the three like it have the names of the rules' definitions that they compute.
+#[tactic(auto, unfolding(rules::specs::Layout::layout_rules))]
 pub fn cell_from(kind: u64, a: u64, b: u64) -> VCell
     ensures { cell_of result ≡ cell_from kind a b }
 {
@@ -65,6 +69,7 @@ fn three_words(kind: u64, first: u64, second: u64) -> Words
 }
 
 // The three words of a cell.
+#[tactic(auto, unfolding(rules::specs::Layout::layout_rules))]
 pub fn cell_words(c: VCell) -> Words
     ensures { three result ≡ cell_words (cell_of c) }
 {
@@ -84,6 +89,7 @@ pub fn cell_words(c: VCell) -> Words
 }
 
 // The cell in a slot's row.
+#[tactic(auto, unfolding(crate::specs::Cells::loaded))]
 pub fn load(words: &[u64], slot: usize) -> VCell
     requires { 8 * slot + 16 ≤ length words.now }
     ensures { cell_of result ≡ loaded words.now slot }
@@ -92,27 +98,21 @@ pub fn load(words: &[u64], slot: usize) -> VCell
     cell_from(words[at], words[at + 1], words[at + 2])
 }
 
-// What a slot shows: its cell, if the slot is in use.
-#[derive(Clone, Copy)]
-pub enum Lookup {
-    Found(VCell),
-    NotInUse,
-}
-
-// The cell of a slot below the capacity that the map has as Allocated.
-pub fn look_up(words: &[u64], map: &[u8], slot: usize) -> Lookup
+// What a slot shows: its cell if it is in use, below the capacity and in the map as Allocated.
+#[tactic(auto, unfolding(crate::specs::Cells::looked_up, rules::specs::Map::map_rules))]
+pub fn look_up(words: &[u64], map: &[u8], slot: usize) -> Option<VCell>
     requires { (8 ≤ length words.now) × (8 * get_or words.now 1 0 + 8 ≤ length words.now) }
     ensures { lookup_of result ≡ looked_up words.now map.now slot }
 {
-    if slot < words[1] as usize {
-        if leaf_map::get(map, slot) == leaf_map::ALLOCATED {
-            return Lookup::Found(load(words, slot));
-        }
+    if slot < words[1] as usize && leaf_map::get(map, slot) == State::Allocated {
+        Some(load(words, slot))
+    } else {
+        None
     }
-    Lookup::NotInUse
 }
 
 // Three words written from a place on.
+#[tactic(auto, unfolding(leaf_rooms::specs::Rooms::stored))]
 fn write_three(list: &mut [u64], at: usize, w: Words)
     requires { at + 3 ≤ length list.old }
     ensures { list.new ≡ stored list.old at (three w) }
@@ -123,13 +123,14 @@ fn write_three(list: &mut [u64], at: usize, w: Words)
 }
 
 // A slot's cell before and after a store.
-#[derive(Clone, Copy)]
+#[derive(Clone, Copy, Debug, PartialEq, Eq)]
 pub struct Change {
     pub old: VCell,
     pub new: VCell,
 }
 
 // Stores a cell into a slot's row; the row's other columns and all other rows stay.
+#[tactic(auto, unfolding(crate::specs::Cells::stored_cell))]
 pub fn store(words: &mut [u64], slot: usize, new: VCell) -> Change
     requires { 8 * slot + 16 ≤ length words.old }
     ensures { Stored words.old words.new slot new result }
@@ -140,7 +141,7 @@ pub fn store(words: &mut [u64], slot: usize, new: VCell) -> Change
 }
 
 // "a value is a slot or a scalar": what a vector's element is.
-#[derive(Clone, Copy)]
+#[derive(Clone, Copy, Debug, PartialEq, Eq)]
 pub enum Value {
     Slot(usize),
     Undefined,
@@ -153,6 +154,7 @@ pub enum Value {
 }
 
 // The value of an element's kind and first field; an unknown kind is taken for Undefined.
+#[tactic(auto, unfolding(rules::specs::Layout::layout_rules))]
 pub fn value_from(kind: u64, a: u64) -> Value
     ensures { value_of result ≡ value_from kind a }
 {
@@ -169,6 +171,7 @@ pub fn value_from(kind: u64, a: u64) -> Value
 }
 
 // The three words of a value.
+#[tactic(auto, unfolding(rules::specs::Layout::layout_rules))]
 pub fn value_words(v: Value) -> Words
     ensures { three result ≡ value_words (value_of v) }
 {
@@ -185,6 +188,7 @@ pub fn value_words(v: Value) -> Words
 }
 
 // The element at an index of the element arena.
+#[tactic(auto, unfolding(crate::specs::Elements::loaded_element))]
 pub fn load_element(elems: &[u64], at: usize) -> Value
     requires { 3 * at + 3 ≤ length elems.now }
     ensures { value_of result ≡ loaded_element elems.now at }
@@ -194,13 +198,14 @@ pub fn load_element(elems: &[u64], at: usize) -> Value
 }
 
 // An element before and after a store.
-#[derive(Clone, Copy)]
+#[derive(Clone, Copy, Debug, PartialEq, Eq)]
 pub struct ElementChange {
     pub old: Value,
     pub new: Value,
 }
 
 // Stores a value as the element at an index; all other elements stay.
+#[tactic(auto, unfolding(crate::specs::Elements::stored_element))]
 pub fn store_element(elems: &mut [u64], at: usize, new: Value) -> ElementChange
     requires { 3 * at + 3 ≤ length elems.old }
     ensures { ElementStored elems.old elems.new at new result }

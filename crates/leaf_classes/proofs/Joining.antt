@@ -2,8 +2,9 @@
 use mathlib.Core.Path.{◌≡◌, sym, ap, ◌∙◌, subst}
 use mathlib.Core.Bool.{Bool, true, not}
 use mathlib.Core.List.{List}
-use Prim.Native.Nat.{ℕ, ◌+◌, ◌≤◌, ◌<◌}
+use Prim.Native.Nat.{ℕ, ◌+◌, ◌<◌, min, max}
 use native.Mathlib.Omega.{arith}
+use native.Mathlib.Decide.{dec_lt}
 use borrow.Author.Tests.{lt-ltb, le-ltb, eq-eqb, ne_eqb}
 use lib.Dec.{eqb, ltb}
 use lib.ListN.{length, set}
@@ -72,12 +73,17 @@ module _ (l : List ℕ) (s t : ℕ) (pre : Rises l × ((s < length l) × (t < le
             come_to true l' (ap (λ (v : Bool). choose v (not (met l s)) true) t')
             (q ∙ ap (λ (v : Bool). choose v l₄ (choose (ltb a b) (set l₄ a (b + 1)) (set l₄ b (a + 1)))) t')
 
-        pub linked_up : a < b → Joins l s t (set l₄ a (b + 1)) true
-        linked_up h =
-            two_classes (set l₄ a (b + 1))
-            (ap (λ (v : Bool). choose v (set l₄ a (b + 1)) (set l₄ b (a + 1))) (sym (lt-ltb a b h)))
-
-        pub linked_down : b ≤ a → Joins l s t (set l₄ b (a + 1)) true
-        linked_down h =
-            two_classes (set l₄ b (a + 1))
-            (ap (λ (v : Bool). choose v (set l₄ a (b + 1)) (set l₄ b (a + 1))) (sym (le-ltb a b h)))
+        -- the lower one to the higher
+        pub linked : (low high : ℕ) → low ≡ min a b → high ≡ max a b → Joins l s t (set l₄ low (high + 1)) true
+        linked low high p q =
+            let choice = λ (v : Bool). choose v (set l₄ a (b + 1)) (set l₄ b (a + 1)) in
+            two_classes (set l₄ low (high + 1)) (elim (dec_lt a b) [
+              | yes h ↦
+                  let x : low ≡ a = omega arith in
+                  let y : high ≡ b = omega arith in
+                  (λ i. set l₄ (x i) (y i + 1)) ∙ ap choice (sym (lt-ltb a b h))
+              | no h ↦
+                  let x : low ≡ b = omega arith in
+                  let y : high ≡ a = omega arith in
+                  (λ i. set l₄ (x i) (y i + 1)) ∙ ap choice (sym (le-ltb a b (omega arith)))
+            ])

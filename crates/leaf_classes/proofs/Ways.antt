@@ -4,9 +4,8 @@ use mathlib.Core.Bool.{Bool, true, false, not}
 use mathlib.Core.List.{List}
 use Prim.Native.Nat.{ℕ, zero, suc, ◌+◌, ◌-◌, ◌≤◌, ◌<◌}
 use native.Mathlib.Omega.{arith}
-use borrow.Author.Tests.{ltb-true, lt-ltb, le-ltb, eq-eqb, ne_eqb}
+use borrow.Author.Tests.{ltb-true, eq-eqb, ne_eqb}
 use lib.ListN.{length, get_or, set}
-use Rattle.laws.specs.Basics.{choose}
 use Rattle.leaf_classes.specs.Classes.{met, link, Rises, Found, finding, halved, Finds, meeting, class_rules}
 use Rattle.leaf_classes.proofs.Roots.{met_below, higher}
 use Rattle.leaf_classes.proofs.Finding.{Regrouped, one_halved}
@@ -111,13 +110,3 @@ module _ (l₀ : List ℕ) (s : ℕ) (l : List ℕ) (x p : ℕ) (way : Walking l
 module _ (l : List ℕ) (s : ℕ) where
   abbrev pub Meeting : Bool → List ℕ → Type 0
   Meeting r l' = (r ≡ not (met l s)) × (l' ≡ meeting l s)
-
-  pub met_already : 0 < get_or l s 0 → Meeting false l
-  unfolding class_rules
-  met_already p =
-      let e = sym (lt-ltb 0 (get_or l s 0) p) in (ap not e, ap (λ (b : Bool). choose b l (set l s (s + 1))) e)
-
-  pub met_first : get_or l s 0 ≤ 0 → Meeting true (set l s (s + 1))
-  unfolding class_rules
-  met_first p =
-      let e = sym (le-ltb 0 (get_or l s 0) p) in (ap not e, ap (λ (b : Bool). choose b l (set l s (s + 1))) e)

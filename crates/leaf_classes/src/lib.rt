@@ -6,7 +6,10 @@
 ghost use Rattle.std.specs.Prelude.{◌≡◌, true, not, ◌<◌, length};
 ghost use Rattle.leaf_classes.specs.Classes.{met, Rises, meeting, Finds, Joins};
 
+// Kept: 0 for a slot not met, since the links are lent scratch, whose words are all zero before and after (the C interface).
+
 // The root of a met slot's class. Each link that is passed is set to the next but one, so that later ways are half as long.
+#[tactic(auto, using(crate::proofs::Ways::word_positive, crate::proofs::Ways::slot_inside, crate::proofs::Ways::next_met, crate::proofs::Ways::next_inside, crate::proofs::Ways::goes_on))]
 pub fn find(links: &mut [u64], s: usize) -> usize
     requires rises { Rises links.old }
     requires s_value { met links.old s ≡ true }
@@ -24,6 +27,7 @@ pub fn find(links: &mut [u64], s: usize) -> usize
 }
 
 // A slot that is not met yet becomes a class of its own; says whether it did.
+#[tactic(auto, unfolding(crate::specs::Classes::met, crate::specs::Classes::meeting))]
 fn meet(links: &mut [u64], s: usize) -> bool
     requires { s < length links.old }
     ensures { (result ≡ not (met links.old s)) × (links.new ≡ meeting links.old s) }
@@ -48,10 +52,8 @@ pub fn join(links: &mut [u64], s: usize, t: usize) -> bool
     if a == b {
         return fresh;
     }
-    if a < b {
-        links[a] = b as u64 + 1;
-    } else {
-        links[b] = a as u64 + 1;
-    }
+    let low = a.min(b);
+    let high = a.max(b);
+    links[low] = high as u64 + 1;
     true
 }

@@ -4,24 +4,20 @@
 ghost use Rattle.std.specs.Prelude.{◌≡◌, length};
 ghost use Rattle.laws.specs.Basics.{zeros};
 
+// Kept: two names, each one call of std's `fill`: one `clear<T>` would need a trait with a zero and its law, and two impls, to say the same.
+
 // Words, all zero.
+#[tactic(auto, using(crate::proofs::Zeroed::zeroed))]
 pub fn clear_words(words: &mut [u64])
     ensures { words.new ≡ zeros (length words.old) }
 {
-    let mut i = 0;
-    while i < words.len() {
-        words[i] = 0;
-        i += 1;
-    }
+    words.fill(0);
 }
 
 // Bytes, all zero.
+#[tactic(auto, using(crate::proofs::Zeroed::zeroed))]
 pub fn clear_bytes(bytes: &mut [u8])
     ensures { bytes.new ≡ zeros (length bytes.old) }
 {
-    let mut i = 0;
-    while i < bytes.len() {
-        bytes[i] = 0;
-        i += 1;
-    }
+    bytes.fill(0);
 }

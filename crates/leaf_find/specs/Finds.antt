@@ -1,9 +1,8 @@
 -- What a search of the table answers, in the rules' words. Assumes nothing.
 use Rattle.std.proofs.Math.Option.{Option, none, some}
-use Rattle.std.specs.Prelude.{ℕ}
-use Rattle.leaf_find.specs.declared.Found.{Found}
-use Rattle.leaf_find.specs.declared.Found.TheVariants.{At, Missing}
+use Rattle.std.specs.Prelude.{ℕ, Some, None}
+use Rattle.std.specs.Prelude as code
 
-abbrev pub shown_found : Found → Option ℕ
-shown_found (At s) = some s
-shown_found Missing = none
+abbrev pub shown_found : code.Option ℕ → Option ℕ
+shown_found (Some s) = some s
+shown_found None = none

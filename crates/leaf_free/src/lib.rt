@@ -8,6 +8,8 @@ ghost use Rattle.std.specs.Prelude.{◌≡◌, ◌^◌, ◌<◌, ◌≤◌, leng
 ghost use Rattle.rules.specs.Heap.{grown, fitting, reaches, most_growths};
 ghost use Rattle.leaf_free.specs.FreeList.{count_of, place, pushed, fresh_words, grown_words, ready, CanStart, CanGrow, CanPop, CanAlloc, Popped};
 
+use leaf_map::State;
+
 // Words of the header.
 const CHUNK: usize = 0;
 
@@ -21,6 +23,7 @@ const GROWTH: usize = 6;
 const MOST_GROWTHS: usize = 32;
 
 // "n chunks grow to n × 3/2 rounded up"
+#[tactic(auto, using(rules::proofs::Growth::chunks_small, rules::proofs::Growth::grown_small), unfolding(rules::specs::Heap::grown))]
 pub fn grown(chunk: usize, size: usize) -> usize
     requires chunk_nonzero { 0 < chunk }
     requires chunk_bound { chunk ≤ 4096 }
@@ -39,14 +42,12 @@ pub fn fitting(chunk: usize, lent: usize, from: usize) -> usize
     ensures { result ≡ fitting most_growths chunk lent from }
 {
     let mut size = from;
-    let mut left = MOST_GROWTHS;
-    while 0 < left {
+    for _ in 0..MOST_GROWTHS {
         let next = grown(chunk, size);
         if lent < next {
-            return size;
+            break;
         }
         size = next;
-        left -= 1;
     }
     size
 }
@@ -59,13 +60,11 @@ pub fn reaches(chunk: usize, goal: usize) -> bool
     ensures { result ≡ reaches most_growths chunk goal chunk }
 {
     let mut size = chunk;
-    let mut left = MOST_GROWTHS;
-    while size < goal {
-        if left == 0 {
-            return false;
+    for _ in 0..MOST_GROWTHS {
+        if goal <= size {
+            break;
         }
         size = grown(chunk, size);
-        left -= 1;
     }
     size == goal
 }
@@ -79,14 +78,14 @@ fn place(i: usize) -> usize
 }
 
 // Puts a slot on top of the list. A row must be left for its place.
+#[tactic(auto, unfolding(crate::specs::FreeList::pushed))]
 pub fn push(words: &mut [u64], slot: usize)
     requires { place (count_of words.old) < length words.old }
     ensures { words.new ≡ pushed words.old slot }
 {
-    let count = words[FREE_COUNT] as usize;
-    let at = place(count);
+    let at = place(words[FREE_COUNT] as usize);
     words[at] = slot as u64;
-    words[FREE_COUNT] = (count + 1) as u64;
+    words[FREE_COUNT] += 1;
 }
 
 // "Fresh: the first slot given is 0, then 1": the header and the list of a heap of one chunk, in words that were zero.
@@ -97,9 +96,7 @@ pub fn fresh(words: &mut [u64], chunk: usize)
     words[CHUNK] = chunk as u64;
     words[CAPACITY] = chunk as u64;
     words[GROWTH] = 1;
-    let mut s = chunk;
-    while 0 < s {
-        s -= 1;
+    for s in (0..chunk).rev() {
         push(words, s);
     }
 }
@@ -112,14 +109,13 @@ pub fn grow(words: &mut [u64])
     let size = words[CAPACITY] as usize;
     let goal = grown(words[CHUNK] as usize, size);
     words[CAPACITY] = goal as u64;
-    let mut s = size;
-    while s < goal {
+    for s in size..goal {
         push(words, s);
-        s += 1;
     }
 }
 
 // Takes the next slot off the list and makes it Allocated.
+#[tactic(auto, using(crate::proofs::Steps::pops_state), unfolding(crate::specs::FreeList::popped))]
 pub fn pop(words: &mut [u64], map: &mut [u8]) -> usize
     requires { CanPop words.old map.old }
     ensures { Popped words.old map.old result words.new map.new }
@@ -130,11 +126,12 @@ pub fn pop(words: &mut [u64], map: &mut [u8]) -> usize
     let slot = words[at] as usize;
     words[at] = 0;
     words[FREE_COUNT] = last as u64;
-    leaf_map::set(map, slot, leaf_map::ALLOCATED);
+    leaf_map::set(map, slot, State::Allocated);
     slot
 }
 
 // A slot; "When the list is empty", the heap grows first.
+#[tactic(auto, using(crate::proofs::Steps::ready_empty, crate::proofs::Steps::ready_already))]
 pub fn alloc(words: &mut [u64], map: &mut [u8]) -> usize
     requires { CanAlloc words.old map.old }
     ensures { Popped (ready words.old) map.old result words.new map.new }

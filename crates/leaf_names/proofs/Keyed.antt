@@ -1,42 +1,21 @@
 -- Entries by their keys: `Goes` is a total order, and what a sorted list's neighbours say of the whole list. Assumes nothing.
-use mathlib.Core.Path.{◌≡◌, refl, sym, ap, ◌∙◌, subst⁻¹}
+use mathlib.Core.Path.{◌≡◌, refl, sym, ap, ◌∙◌}
 use mathlib.Core.Bool.{Bool, true, false, not}
 use mathlib.Core.List.{List, [], ◌∷◌}
-use Prim.Native.Nat.{ℕ, zero, suc, ◌+◌, ◌-◌, ◌*◌, ◌<◌, ◌≤◌}
+use Prim.Native.Nat.{ℕ, zero, suc, ◌<◌}
 use native.Mathlib.Omega.{arith}
-use native.Mathlib.Numerals.{add-one}
-use native.Mathlib.Decide.{ℕ_discrete}
 use borrow.Author.Tests.{not-true}
-use lib.ListN.{length, get_or, take, drop, set, length-drop, length-set}
-use lib.Seq.{drop-cons, length-take-le, get_or-take, get_or-set_same, get_or-set_other}
+use lib.ListN.{length, get_or}
 use lib.Dec.{eqb}
 use Rattle.laws.specs.Basics.{both, same}
-use Rattle.laws.specs.Sorting.{Permuted, Sorted}
+use Rattle.laws.specs.Sorting.{Sorted}
 use Rattle.laws.proofs.Tests.{true≢false, both_left, both_right}
-use Rattle.laws.proofs.Sorting.{permuted_all}
 use Rattle.leaf_names.specs.Ordering.{Standing, before, level, after, is_level, not_after, flip, then, number_compare, name_compare, Key, key_compare}
-use Rattle.leaf_names.specs.Keys.{key_of, Within, Entries, Goes, alike, neighbours_differ}
-use Rattle.leaf_names.proofs.Ordered.{level_is, after_is, key_flip, key_level, key_level_is, key_chain, key_antisym, then_not_after, number_same, same_level, name_level}
+use Rattle.leaf_names.specs.declared.Key as code
+use Rattle.leaf_names.specs.Keys.{key_of, Goes, alike, neighbours_differ}
+use Rattle.leaf_names.proofs.Ordered.{level_is, after_is, key_flip, key_level, key_level_is, key_chain, key_antisym, then_not_after, number_same, same_level}
 
--- ---- the key's parts
-
--- the name as the part from its place to its end
-pub key_name : (keys bytes : List ℕ) (e : ℕ)
-    → take (get_or keys (3 * e) 0 + get_or keys (3 * e + 1) 0 - get_or keys (3 * e) 0) (drop (get_or keys (3 * e) 0) bytes) ≡ (key_of keys bytes e).name
-unfolding key_of
-key_name keys bytes e =
-    let size : get_or keys (3 * e) 0 + get_or keys (3 * e + 1) 0 - get_or keys (3 * e) 0 ≡ get_or keys (3 * e + 1) 0 = omega arith in
-    ap (λ (n : ℕ). take n (drop (get_or keys (3 * e) 0) bytes)) size
-
-module _ (keys bytes : List ℕ) where
-  -- one part of the bytes is one name
-  pub one_part : (d e : ℕ) → get_or keys (3 * d) 0 ≡ get_or keys (3 * e) 0 → get_or keys (3 * d + 1) 0 ≡ get_or keys (3 * e + 1) 0
-      → level ≡ name_compare (key_of keys bytes d).name (key_of keys bytes e).name
-  unfolding key_of
-  one_part d e p q =
-      sym (name_level (key_of keys bytes d).name)
-      ∙ (λ i. name_compare (key_of keys bytes d).name (take (q i) (drop (p i) bytes)))
-
+module _ (keys : List code.Key) (bytes : List ℕ) where
   -- ---- the order of entries
 
   pub goes_refl : (d : ℕ) → Goes keys bytes d d
@@ -59,33 +38,6 @@ module _ (keys bytes : List ℕ) where
   -- each before the other: one key
   pub goes_both : (d e : ℕ) → Goes keys bytes d e → Goes keys bytes e d → key_of keys bytes d ≡ key_of keys bytes e
   goes_both d e p q = key_antisym (key_of keys bytes d) (key_of keys bytes e) p.goes q.goes
-
-  pub entries_permuted : {xs ys : List ℕ} → Permuted xs ys → Entries keys bytes xs → Entries keys bytes ys
-  entries_permuted p h = record { within = permuted_all (Within keys bytes) p h.within }
-
-  -- a list of entries is made from the front, one a store
-  pub entries_none : (l : List ℕ) → Entries keys bytes (take 0 l)
-  entries_none l = record { within = λ k h. absurd (omega arith) }
-
-  pub entries_more : (l : List ℕ) (n e : ℕ) → n < length l → Entries keys bytes (take n l) → Within keys bytes e
-      → Entries keys bytes (take (n + 1) (set l n e))
-  entries_more l n e h t w = record { within = within }
-    where
-      size : length (take (n + 1) (set l n e)) ≡ n + 1
-      size = length-take-le (n + 1) (set l n e) (omega (arith, length-set l n e))
-
-      within : (k : ℕ) → k < length (take (n + 1) (set l n e)) → Within keys bytes (get_or (take (n + 1) (set l n e)) k 0)
-      within k i =
-          let there : get_or (take (n + 1) (set l n e)) k 0 ≡ get_or (set l n e) k 0 = get_or-take (n + 1) (set l n e) k 0 (omega (arith, size)) in
-          elim (ℕ_discrete k n) [
-            | yes q ↦
-                subst⁻¹ (Within keys bytes)
-                (there ∙ ap (λ (j : ℕ). get_or (set l n e) j 0) q ∙ get_or-set_same l n e 0 h) w
-            | no d ↦
-                let small : k < n = omega (arith, size) in
-                subst⁻¹ (Within keys bytes) (there ∙ get_or-set_other l n k e 0 d ∙ sym (get_or-take n l k 0 small))
-                (t.within k (omega (arith, length-take-le n l (omega arith))))
-          ]
 
   -- ---- one key for two
 
@@ -188,35 +140,3 @@ module _ (keys bytes : List ℕ) where
       by : (b : Bool) → neighbours_differ keys bytes l ≡ b → b ≡ false
       by true e = absurd (distinct_all l s e t)
       by false e = refl
-
-  -- ---- the loop over neighbours
-
-  module _ (l : List ℕ) (i : ℕ) (now : neighbours_differ keys bytes l ≡ neighbours_differ keys bytes (drop i l)) where
-    module _ (h : i + 1 < length l) where
-      next : neighbours_differ keys bytes (drop i l)
-          ≡ both (not (alike keys bytes (get_or l i 0) (get_or l (i + 1) 0))) (neighbours_differ keys bytes (drop (i + 1) l))
-      unfolding neighbours_differ
-      next =
-          let k : i < length l = omega arith in
-          let j : suc i < length l = omega arith in
-          rw (add-one i, drop-cons l i 0 k, drop-cons l (suc i) 0 j)
-
-      turn : (t : Bool) → alike keys bytes (get_or l i 0) (get_or l (i + 1) 0) ≡ t
-          → neighbours_differ keys bytes l ≡ both (not t) (neighbours_differ keys bytes (drop (i + 1) l))
-      turn t e = now ∙ next ∙ ap (λ (t : Bool). both (not t) (neighbours_differ keys bytes (drop (i + 1) l))) e
-
-      pub distinct_stops : alike keys bytes (get_or l i 0) (get_or l (i + 1) 0) ≡ true → false ≡ neighbours_differ keys bytes l
-      distinct_stops e = sym (turn true e)
-
-      pub distinct_on : alike keys bytes (get_or l i 0) (get_or l (i + 1) 0) ≡ false
-          → neighbours_differ keys bytes l ≡ neighbours_differ keys bytes (drop (i + 1) l)
-      distinct_on e = turn false e
-
-    pub distinct_ends : length l ≤ i + 1 → true ≡ neighbours_differ keys bytes l
-    unfolding neighbours_differ
-    distinct_ends h = sym (now ∙ short (drop i l) (omega (arith, length-drop i l)))
-      where
-        short : (m : List ℕ) → length m ≤ 1 → neighbours_differ keys bytes m ≡ true
-        short [] k = refl
-        short (d ∷ []) k = refl
-        short (d ∷ e ∷ m) k = absurd (omega arith)

@@ -1,3 +1,3 @@
 pub mod Ordered
-pub mod Turns
+pub mod Shown
 pub mod Keyed

@@ -1,36 +1,32 @@
--- Keys in lent parts: entry e has its name's place, its name's size and its scope at 3 e, 3 e + 1 and 3 e + 2 of `keys`, and
--- the name itself in `bytes`. Assumes nothing.
-use Rattle.std.specs.Prelude.{Bool, true, not, ◌≡◌, List, [], ◌∷◌, ℕ, ◌+◌, ◌*◌, ◌<◌, ◌≤◌, length, get_or, take, drop}
+-- Keys in lent parts: entry e has its name's place, its name's size and its scope at e of `keys`, and the name itself in
+-- `bytes`. Assumes nothing.
+use Rattle.std.specs.Prelude.{Bool, true, not, ◌≡◌, List, [], ◌∷◌, ℕ, get_or, take, drop}
 use Rattle.laws.specs.Basics.{both}
+use Rattle.leaf_names.specs.declared.Key as code
 use Rattle.leaf_names.specs.Ordering.{Key, is_level, not_after, key_compare, ordering}
 
-unfoldable pub key_of : List ℕ → List ℕ → ℕ → Key
-key_of keys bytes e =
-    record {
-      name = take (get_or keys (3 * e + 1) 0) (drop (get_or keys (3 * e) 0) bytes);
-      scope = get_or keys (3 * e + 2) 0;
-    }
+-- the key that is meant: of what would lie outside the bytes nothing
+abbrev pub key_in : List ℕ → code.Key → Key
+key_in bytes k = record { name = take k.size (drop k.place bytes); scope = k.scope }
 
--- the entry's key lies within the lent parts
-pub record Within (keys bytes : List ℕ) (e : ℕ) : Type 0 where
-  pub row : 3 * e + 2 < length keys
-  pub part : get_or keys (3 * e) 0 + get_or keys (3 * e + 1) 0 ≤ length bytes
+-- entry e's, as it stands; past the list no bytes, and scope 0
+abbrev pub stored : List code.Key → ℕ → code.Key
+stored keys e = get_or keys e (record { place = 0; size = 0; scope = 0 })
 
--- so do the keys of all the entries listed
-pub record Entries (keys bytes order : List ℕ) : Type 0 where
-  pub within : (k : ℕ) → k < length order → Within keys bytes (get_or order k 0)
+abbrev pub key_of : List code.Key → List ℕ → ℕ → Key
+key_of keys bytes e = key_in bytes (stored keys e)
 
 -- the key of d does not stand after that of e
-pub record Goes (keys bytes : List ℕ) (d e : ℕ) : Type 0 where
+pub record Goes (keys : List code.Key) (bytes : List ℕ) (d e : ℕ) : Type 0 where
   pub goes : not_after (key_compare (key_of keys bytes d) (key_of keys bytes e)) ≡ true
 
 -- two entries under one key
-unfoldable pub alike : List ℕ → List ℕ → ℕ → ℕ → Bool
-unfolding ordering key_of
+unfoldable pub alike : List code.Key → List ℕ → ℕ → ℕ → Bool
+unfolding ordering
 alike keys bytes d e = is_level (key_compare (key_of keys bytes d) (key_of keys bytes e))
 
 -- no two neighbours are under one key
-unfoldable pub neighbours_differ : List ℕ → List ℕ → List ℕ → Bool
+unfoldable pub neighbours_differ : List code.Key → List ℕ → List ℕ → Bool
 unfolding alike
 neighbours_differ keys bytes [] = true
 neighbours_differ keys bytes (d ∷ []) = true

@@ -2,8 +2,8 @@
 -- Assumes nothing.
 use Rattle.std.specs.Prelude.{Bool, true, false, List, [], ◌∷◌, ℕ, ltb}
 use Rattle.laws.specs.Basics.{choose}
-use Rattle.leaf_names.specs.declared.Order.{Order}
-use Rattle.leaf_names.specs.declared.Order.TheVariants.{Before, Same, After}
+use Rattle.std.specs.declared.cmp.Ordering.{Ordering}
+use Rattle.std.specs.declared.cmp.Ordering.TheVariants.{Less, Equal, Greater}
 
 -- how one thing stands to another
 pub data Standing : Type 0 where
@@ -12,10 +12,10 @@ pub data Standing : Type 0 where
   after : Standing
 
 -- an answer of the code as the standing that it means
-abbrev pub shown : Order → Standing
-shown Before = before
-shown Same = level
-shown After = after
+abbrev pub shown : Ordering → Standing
+shown Less = before
+shown Equal = level
+shown Greater = after
 
 -- the other way round
 abbrev pub flip : Standing → Standing

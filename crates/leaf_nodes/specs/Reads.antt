@@ -1,24 +1,16 @@
 -- What a node by value means in the rules' words, with the bytes that it was read from. Assumes nothing.
-use Rattle.std.specs.Prelude.{◌≡◌, Bool, true, false, List, ℕ, ◌+◌, ◌-◌, ◌^◌, ◌≤◌, ◌<◌, eqb, length, take, drop}
-use Rattle.laws.specs.Basics.{choose, big}
+use Rattle.std.specs.Prelude.{◌≡◌, Bool, true, false, List, ℕ, ◌+◌, ◌-◌, ◌≤◌, length, take, drop, Result, Ok, Err, IfOk}
 use Rattle.rules.specs.Cells.{Scalar, undefined, nil, eof, void, bool, char, number}
 use Rattle.rules.specs.Refusals as rules
-use Rattle.rules.specs.Nodes.{plain, string, symbol, ident, ref, atom, pair, vector, def, Reading, reads, faulty, bool_node, char_node, text, read_node, bytes}
+use Rattle.rules.specs.Nodes.{plain, string, symbol, ident, ref, atom, pair, vector, def, Reading, reads, faulty, field, text, read_node, bytes}
 use Rattle.rules.specs.Nodes as rules_nodes
 use Rattle.leaf_cells.specs.declared.Value.{Value}
 use Rattle.leaf_cells.specs.declared.Value.TheVariants as value
 use Rattle.leaf_nodes.specs.declared.Fault.{Fault}
 use Rattle.leaf_nodes.specs.declared.Fault.TheVariants.{UnknownKind, CutShort, LeftOver, BadBool, BadChar, BadUtf8}
 use Rattle.leaf_nodes.specs.declared.Node.{Node}
-use Rattle.leaf_nodes.specs.declared.Node.TheVariants.{Faulty, Plain, String, Symbol, Ident, Ref, Pair, Vector, Def}
+use Rattle.leaf_nodes.specs.declared.Node.TheVariants.{Plain, String, Symbol, Ident, Ref, Pair, Vector, Def}
 use Rattle.leaf_nodes.specs.declared.Read.{Read}
-use Rattle.leaf_nodes.specs.declared.Text.{Text}
-use Rattle.leaf_nodes.specs.declared.Text.TheVariants.{Bad, Good}
-
--- a number is the first w bytes of a list, and in their width
-pub record Number (w : ℕ) (bs : List ℕ) (n : ℕ) : Type 0 where
-  pub is : n ≡ big (take w bs)
-  pub small : n < 256 ^ w
 
 -- the rules' fault of each case
 abbrev pub fault_of : Fault → rules.Fault
@@ -52,7 +44,6 @@ is_scalar (value.Number n) = true
 
 -- the rules' reading of a node with this text, where these bytes are left
 abbrev pub shown : Node → List ℕ → List ℕ → Reading rules_nodes.Node
-shown (Faulty f) t rest = faulty (fault_of f)
 shown (Plain v) t rest = reads (atom (plain (scalar_of v))) rest
 shown (String n) t rest = reads (atom (string t)) rest
 shown (Symbol n) t rest = reads (atom (symbol t)) rest
@@ -64,7 +55,6 @@ shown (Def l) t rest = reads (def l) rest
 
 -- the length of a node's text
 abbrev pub text_length : Node → ℕ
-text_length (Faulty f) = 0
 text_length (Plain v) = 0
 text_length (String n) = n
 text_length (Symbol n) = n
@@ -79,70 +69,61 @@ unfoldable pub text_of : List ℕ → Node → ℕ → List ℕ
 text_of bs n size = take (text_length n) (drop (size - text_length n) bs)
 
 -- what was read of a list of bytes
-unfoldable pub as_read : List ℕ → Read → Reading rules_nodes.Node
+unfoldable pub as_read : List ℕ → Result Read Fault → Reading rules_nodes.Node
 unfolding text_of
-as_read bs r = shown r.node (text_of bs r.node r.size) (drop r.size bs)
+as_read bs (Ok r) = shown r.node (text_of bs r.node r.size) (drop r.size bs)
+as_read bs (Err f) = faulty (fault_of f)
 
--- a plain node is a scalar, and a faulty one takes no byte
-abbrev pub in_order : Node → ℕ → Bool
-in_order (Faulty f) size = eqb size 0
-in_order (Plain v) size = is_scalar v
-in_order (String n) size = true
-in_order (Symbol n) size = true
-in_order (Ident s n) size = true
-in_order (Ref l) size = true
-in_order Pair size = true
-in_order (Vector n) size = true
-in_order (Def l) size = true
+-- a plain node is a scalar
+abbrev pub in_order : Node → Bool
+in_order (Plain v) = is_scalar v
+in_order (String n) = true
+in_order (Symbol n) = true
+in_order (Ident s n) = true
+in_order (Ref l) = true
+in_order Pair = true
+in_order (Vector n) = true
+in_order (Def l) = true
 
--- a read gives this reading of a list of bytes, inside which the node lies, and inside the node its text
-pub record Shows (bs : List ℕ) (x : Reading rules_nodes.Node) (r : Read) : Type 0 where
-  pub is : as_read bs r ≡ x
-  pub order : in_order r.node r.size ≡ true
+-- a node lies inside a list of bytes, and its text inside the node
+pub record Placed (bs : List ℕ) (r : Read) : Type 0 where
+  pub order : in_order r.node ≡ true
   pub inside : r.size ≤ length bs
   pub texts : text_length r.node ≤ r.size
 
--- the same of the node at the list's start
-pub record ReadAs (bs : List ℕ) (r : Read) : Type 0 where
-  pub shows : Shows bs (read_node bs) r
+-- what was read of the node at a list's start
+pub record ReadAs (bs : List ℕ) (r : Result Read Fault) : Type 0 where
+  pub is : as_read bs r ≡ read_node bs
+  pub placed : IfOk r (Placed bs)
   pub all : bytes bs ≡ true
 
 -- ---- by kind
 
-abbrev pub number_node : ℕ → List ℕ → Reading rules_nodes.Node
-number_node n = reads (atom (plain (number n)))
+-- a scalar, with what is left, or what is wrong with it
+abbrev pub value_reading : Result Value Fault → List ℕ → Reading rules_nodes.Node
+value_reading (Ok v) rest = reads (atom (plain (scalar_of v))) rest
+value_reading (Err f) rest = faulty (fault_of f)
 
-abbrev pub string_node : List ℕ → rules_nodes.Node
-string_node t = atom (string t)
+-- what is made of a field of w bytes, and of what is left
+abbrev pub field_reading : ℕ → Result ℕ Fault → (ℕ → List ℕ → Reading rules_nodes.Node) → List ℕ → Reading rules_nodes.Node
+field_reading w (Ok n) next bs = next n (drop w bs)
+field_reading w (Err f) next bs = faulty (fault_of f)
 
-abbrev pub symbol_node : List ℕ → rules_nodes.Node
-symbol_node t = atom (symbol t)
-
-abbrev pub ident_node : ℕ → List ℕ → rules_nodes.Node
-ident_node s t = atom (ident s t)
-
--- the node of a kind with one field of 4 bytes; one that is none of the others is a reference
-unfoldable pub of_field : ℕ → ℕ → List ℕ → Reading rules_nodes.Node
-of_field k =
-    choose (eqb k 4) bool_node
-    (choose (eqb k 5) char_node
-    (choose (eqb k 10) (λ n. reads (vector n)) (choose (eqb k 12) (λ l. reads (def l)) (λ l. reads (atom (ref l))))))
+-- a field of w bytes was read as this, whatever follows, and lies inside the bytes
+pub record FieldRead (w : ℕ) (bs : List ℕ) (r : Result ℕ Fault) : Type 0 where
+  pub is : (next : ℕ → List ℕ → Reading rules_nodes.Node) → field w next bs ≡ field_reading w r next bs
+  pub inside : IfOk r (λ n. w ≤ length bs)
 
 -- what is made of a text that a length stands before, and what is left
-unfoldable pub text_reading : Text → (List ℕ → rules_nodes.Node) → List ℕ → Reading rules_nodes.Node
-text_reading (Bad f) made bs = faulty (fault_of f)
-text_reading (Good n) made bs = reads (made (take n (drop 4 bs))) (drop (4 + n) bs)
-
--- the bytes that a text takes with its length
-abbrev pub text_size : Text → ℕ
-text_size (Bad f) = 0
-text_size (Good n) = 4 + n
+abbrev pub text_reading : Result ℕ Fault → (List ℕ → rules_nodes.Node) → List ℕ → Reading rules_nodes.Node
+text_reading (Ok n) made bs = reads (made (take n (drop 4 bs))) (drop (4 + n) bs)
+text_reading (Err f) made bs = faulty (fault_of f)
 
 -- a text was read as this, whatever is made of it, and lies inside the bytes
-pub record TextRead (bs : List ℕ) (r : Text) : Type 0 where
+pub record TextRead (bs : List ℕ) (r : Result ℕ Fault) : Type 0 where
   pub is : (made : List ℕ → rules_nodes.Node) → text made bs ≡ text_reading r made bs
-  pub inside : text_size r ≤ length bs
+  pub inside : IfOk r (λ n. 4 + n ≤ length bs)
 
 unfoldable pub reads_rules : Unit {0}
-unfolding text_of as_read of_field text_reading
+unfolding text_of as_read
 reads_rules = tt

@@ -1,39 +1,22 @@
--- A run of stores, turn by turn, and where a new block begins. Assumes nothing.
-use mathlib.Core.Path.{◌≡◌, sym, ap, ◌∙◌}
-use mathlib.Core.Bool.{Bool}
+-- A part written over what stood. Assumes nothing.
+use mathlib.Core.Path.{◌≡◌, refl, ◌∙◌}
 use mathlib.Core.List.{List}
-use Prim.Native.Nat.{ℕ, suc, ◌+◌, ◌≤◌, ◌<◌}
+use Prim.Native.Nat.{ℕ, ◌+◌, ◌-◌, ◌≤◌}
 use native.Mathlib.Omega.{arith}
-use borrow.Author.Tests.{eq-eqb, ne_eqb}
-use lib.ListN.{length, get_or, set, drop, drop_of_length-le}
-use lib.Seq.{drop-cons}
-use Rattle.laws.specs.Basics.{choose}
+use lib.ListN.{length}
+use borrow.Rule.Slice.PartMut.{put_mid}
+use Rattle.std.proofs.Common.{append_assoc}
+use Rattle.std.proofs.lemmas.List.Edits.{sets-eq, paste_all}
+use Rattle.std.proofs.lemmas.Slice.{put_mid-paste}
 use Rattle.leaf_rooms.specs.Rooms.{stored}
-use Rattle.leaf_rooms.specs.Rooms.{new_place}
 
--- ---- what was to write is what is left to write
+-- ---- a part written over
 
-pub stored_start : (l : List ℕ) (at : ℕ) (t : List ℕ) → stored l (at + 0) (drop 0 t) ≡ stored l at t
-stored_start l at t = ap (λ (n : ℕ). stored l n t) (native.Mathlib.Nat.add-zero at)
-
-pub stored_on : (l : List ℕ) (at : ℕ) (t : List ℕ) (i : ℕ) → i < length t
-    → stored (set l (at + i) (get_or t i 0)) (at + (i + 1)) (drop (i + 1) t) ≡ stored l (at + i) (drop i t)
+pub put_in : {A : Type 0} (l : List A) (at : ℕ) (t t' : List A) → t' ≡ t → at + length t ≤ length l
+    → put_mid at (at + length t - at) l t' ≡ stored l at t
 unfolding stored
-stored_on l at t i h =
-    let place : at + (i + 1) ≡ suc (at + i) = omega arith in
-    let next : i + 1 ≡ suc i = omega arith in
-    (λ j. stored (set l (at + i) (get_or t i 0)) (place j) (drop (next j) t)) ∙ ap (stored l (at + i)) (sym (drop-cons t i 0 h))
-
-pub stored_end : (l : List ℕ) (at : ℕ) (t : List ℕ) (i : ℕ) → length t ≤ i → stored l at (drop i t) ≡ l
-unfolding stored
-stored_end l at t i h = ap (stored l at) (drop_of_length-le t h)
-
--- ---- a block's place
-
-pub place_none : (end n : ℕ) → n ≡ 0 → 0 ≡ new_place end n
-unfolding new_place
-place_none end n e = sym (ap (λ (b : Bool). choose b 0 end) (eq-eqb n 0 e))
-
-pub place_some : (end n : ℕ) → (n ≡ 0 → ⊥) → end ≡ new_place end n
-unfolding new_place
-place_some end n d = sym (ap (λ (b : Bool). choose b 0 end) (ne_eqb n 0 d))
+put_in l at t t' e h =
+    let n : length t ≡ at + length t - at = omega arith in
+    put_mid-paste at (at + length t - at) l t' t (length t) e n refl
+    ∙ paste_all l at t (length t) refl
+    ∙ rw (sets-eq t l at h, append_assoc) refl

@@ -5,7 +5,7 @@ use Rattle.std.proofs.lemmas.List.Edits.{sets}
 use Rattle.laws.specs.Basics.{choose}
 
 -- the list with these written over what stood from a place on
-unfoldable pub stored : List ℕ → ℕ → List ℕ → List ℕ
+unfoldable pub stored {ℓ} : {A : Type ℓ} → List A → ℕ → List A → List A
 stored l at new = sets l at new
 
 -- the words with a count raised

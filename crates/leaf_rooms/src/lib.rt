@@ -1,37 +1,36 @@
 // The rooms of the arenas: a text as the part of the bytes that holds it, and new blocks. Document 01: "A string or name is read as
-// the part of the byte arena that holds it", "New blocks go at the end of the room in use", "an empty one at place 0". Words 4 and
-// 5 of the header count the bytes and the elements in use.
+// the part of the byte arena that holds it", "New blocks go at the end of the room in use", "an empty one at place 0".
 #![tactic(auto)]
 
 ghost use Rattle.std.specs.Prelude.{◌≡◌, ◌+◌, ◌^◌, ◌≤◌, ◌<◌, length, get_or};
-ghost use Rattle.leaf_rooms.specs.Rooms.{stored};
-ghost use Rattle.leaf_rooms.specs.Rooms.{Appended, Reserved};
+ghost use Rattle.leaf_rooms.specs.Rooms.{stored, Appended, Reserved};
 ghost use Rattle.rules.specs.Cells.{block};
 ghost use Rattle.rules.specs.Heap.{part_of};
+
+// Words of the header: the bytes and the elements in use.
+const BYTES_USED: usize = 4;
+
+const ELEMENTS_USED: usize = 5;
 
 // "A string or name is read as the part of the byte arena that holds it."
 pub fn text(bytes: &[u8], place: usize, size: usize) -> &[u8]
     requires { place + size ≤ length bytes.now }
     ensures { result.now ≡ part_of bytes.now (block place size) }
 {
-    let end = place + size;
-    &bytes[place..end]
+    &bytes[place..place + size]
 }
 
-// Bytes written from a place on.
-pub fn write_bytes(bytes: &mut [u8], at: usize, text: &[u8])
-    requires { at + length text.now ≤ length bytes.old }
-    ensures { bytes.new ≡ stored bytes.old at text.now }
+// A part written over what stood from a place on.
+pub fn write<T: Copy>(room: &mut [T], at: usize, part: &[T])
+    requires { at + length part.now ≤ length room.old }
+    ensures { room.new ≡ stored room.old at part.now }
 {
-    let mut i = 0;
-    while i < text.len() {
-        bytes[at + i] = text[i];
-        i += 1;
-    }
+    room[at..at + part.len()].copy_from_slice(part);
 }
 
 // Raises a word of the header, which counts a room in use, and answers where the new block is: at the old count, "an empty
 // one at place 0".
+#[tactic(auto, unfolding(crate::specs::Rooms::raised, crate::specs::Rooms::new_place))]
 fn raise(words: &mut [u64], k: usize, n: usize) -> usize
     requires k_in_bounds { k < length words.old }
     requires n_bound { get_or words.old k 0 + n < 2 ^ 64 }
@@ -48,8 +47,8 @@ pub fn append_text(words: &mut [u64], bytes: &mut [u8], text: &[u8]) -> usize
     requires text_in_bounds { get_or words.old 4 0 + length text.now ≤ length bytes.old }
     ensures { Appended words.old words.new bytes.old bytes.new text.now result }
 {
-    write_bytes(bytes, words[4] as usize, text);
-    raise(words, 4, text.len())
+    write(bytes, words[BYTES_USED] as usize, text);
+    raise(words, BYTES_USED, text.len())
 }
 
 // A block of n elements at the end of the room in use. Spare room is zero and zero is Undefined, so nothing is written.
@@ -58,5 +57,5 @@ pub fn reserve_elements(words: &mut [u64], n: usize) -> usize
     requires n_bound { get_or words.old 5 0 + n < 2 ^ 64 }
     ensures { Reserved words.old words.new 5 n result }
 {
-    raise(words, 5, n)
+    raise(words, ELEMENTS_USED, n)
 }

@@ -9,12 +9,13 @@ use lib.ListN.{length, get_or}
 use Rattle.laws.specs.Basics.{count, rising}
 use Rattle.laws.proofs.Lists.{length-rising, get_or_rising, count_rising_in}
 use Rattle.laws.proofs.Sorting.{counted_twice, Stands, stands, permuted_all, permuted_sym, permuted_trans, sorted_determined}
+use Rattle.leaf_names.specs.declared.Key as code
 use Rattle.leaf_names.specs.Keys.{key_of, Goes, neighbours_differ}
 use Rattle.leaf_names.proofs.Ordered.{Trichotomy, less, equal, more, trichotomy}
 use Rattle.leaf_names.proofs.Keyed.{goes_both, Twice, distinct_all, distinct_twice}
-use Rattle.leaf_sort.specs.Sinking.{Arranged}
+use Rattle.leaf_sort.specs.Arranged.{Arranged}
 
-module _ (keys bytes : List ℕ) where
+module _ (keys : List code.Key) (bytes : List ℕ) where
   -- where no two entries share a key, the arranged list is one
   pub sort_determined : {xs ys zs : List ℕ} → Arranged (Goes keys bytes) xs ys → Arranged (Goes keys bytes) xs zs
       → ((d e : ℕ) → 0 < count d xs → 0 < count e xs → key_of keys bytes d ≡ key_of keys bytes e → d ≡ e) → ys ≡ zs

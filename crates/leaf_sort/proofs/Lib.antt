@@ -1,2 +1,2 @@
-mod Sunken
+pub mod ByStd
 pub mod Arranging

@@ -6,10 +6,13 @@
 ghost use Rattle.std.specs.Prelude.{◌≡◌, ◌+◌, ◌*◌, ◌≤◌, length};
 ghost use Rattle.leaf_symbols.specs.Table.{count_of, entry, stored_entry, added, ClosedUp, cleared, dropped};
 
+use leaf_map::State;
+
 // A word of the header.
 pub const TABLE_COUNT: usize = 3;
 
 // Writes an entry at a place of the table.
+#[tactic(auto, unfolding(crate::specs::Table::stored_entry))]
 fn store_entry(words: &mut [u64], i: usize, slot: u64, scope: u64)
     requires { 8 * i + 16 ≤ length words.old }
     ensures { words.new ≡ stored_entry words.old i (entry slot scope) }
@@ -20,13 +23,14 @@ fn store_entry(words: &mut [u64], i: usize, slot: u64, scope: u64)
 }
 
 // A new entry, at the table's end.
+#[tactic(auto, unfolding(crate::specs::Table::added))]
 pub fn add(words: &mut [u64], slot: usize, scope: u64)
     requires { 8 * count_of words.old + 16 ≤ length words.old }
     ensures { words.new ≡ added words.old (entry slot scope) }
 {
     let count = words[TABLE_COUNT] as usize;
     store_entry(words, count, slot as u64, scope);
-    words[TABLE_COUNT] = (count + 1) as u64;
+    words[TABLE_COUNT] += 1;
 }
 
 // Moves the entries whose slot is Allocated up to the table's start, in their order, and answers how many they are.
@@ -37,33 +41,31 @@ fn close_up(words: &mut [u64], map: &[u8]) -> usize
 {
     let count = words[TABLE_COUNT] as usize;
     let mut kept = 0;
-    let mut i = 0;
-    while i < count {
+    for i in 0..count {
         let at = 8 + 8 * i;
         let slot = words[at + 5];
         let scope = words[at + 6];
-        if leaf_map::get(map, slot as usize) == leaf_map::ALLOCATED {
+        if leaf_map::get(map, slot as usize) == State::Allocated {
             store_entry(words, kept, slot, scope);
             kept += 1;
         }
-        i += 1;
     }
     kept
 }
 
 // Makes the table's places from `from` up to `to` empty.
+#[tactic(auto, using(crate::proofs::Turns::cleared_on, crate::proofs::Turns::cleared_end))]
 fn clear(words: &mut [u64], from: usize, to: usize)
     requires { 8 * to + 8 ≤ length words.old }
     ensures { words.new ≡ cleared words.old from to }
 {
-    let mut i = from;
-    while i < to {
+    for i in from..to {
         store_entry(words, i, 0, 0);
-        i += 1;
     }
 }
 
 // "A swept symbol leaves the table": entries whose slot is not Allocated go, and the others close up.
+#[tactic(auto, using(crate::proofs::Turns::drops))]
 pub fn drop_freed(words: &mut [u64], map: &[u8])
     requires in_bounds { 8 ≤ length words.old }
     requires words_in_bounds { 8 * count_of words.old + 8 ≤ length words.old }

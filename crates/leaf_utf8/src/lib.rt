@@ -15,22 +15,18 @@ struct Awaited {
     high: u8,
 }
 
-// What a byte leads to.
-#[derive(Clone, Copy)]
-enum Next {
-    Bad,
-    Good(Awaited),
-}
+// Kept: std's `from_utf8` would do, but the edits overlong_two_accepted and three others are on the grammar's rows in this code.
 
 // `left` bytes are awaited, the next of them in this range.
-fn awaiting(left: u8, low: u8, high: u8) -> Next
-    ensures { result ≡ Next.Good (record { left = left; low = low; high = high }) }
+fn awaiting(left: u8, low: u8, high: u8) -> Option<Awaited>
+    ensures { result ≡ Some (record { left = left; low = low; high = high }) }
 {
-    Next::Good(Awaited { left, low, high })
+    Some(Awaited { left, low, high })
 }
 
 // What follows a first byte: the rows of RFC 3629's grammar, one a case, with the second byte's own range.
-fn first(byte: u8) -> Next
+#[tactic(auto, unfolding(rules::specs::Utf8::follows, rules::specs::Utf8::rows, rules::specs::Utf8::within, laws::specs::Basics::find, crate::specs::Awaiting::awaits))]
+fn first(byte: u8) -> Option<Awaited>
     ensures { shown result ≡ follows byte }
 {
     match byte {
@@ -43,22 +39,20 @@ fn first(byte: u8) -> Next
         0xf0 => awaiting(3, 0x90, 0xbf),
         0xf1..=0xf3 => awaiting(3, 0x80, 0xbf),
         0xf4 => awaiting(3, 0x80, 0x8f),
-        _ => Next::Bad,
+        _ => None,
     }
 }
 
 // What follows one more byte.
-fn step(a: Awaited, byte: u8) -> Next
+fn step(a: Awaited, byte: u8) -> Option<Awaited>
     ensures { (bs : List ℕ) → utf8_after (ranges a) (byte ∷ bs) ≡ rest_good result bs }
 {
     if a.left == 0 {
         first(byte)
-    } else if byte < a.low {
-        Next::Bad
-    } else if byte <= a.high {
+    } else if a.low <= byte && byte <= a.high {
         awaiting(a.left - 1, 0x80, 0xbf)
     } else {
-        Next::Bad
+        None
     }
 }
 
@@ -71,21 +65,19 @@ pub fn is_utf8(s: &[u8]) -> bool
         low: 0x80,
         high: 0xbf,
     };
-    let mut i = 0;
-    while i < s.len() {
-        let next = step(a, s[i]);
-        match next {
-            Next::Bad => return false,
-            Next::Good(b) => a = b,
-        }
-        i += 1;
+    for byte in s {
+        let Some(next) = step(a, *byte) else {
+            return false;
+        };
+        a = next;
     }
     a.left == 0
 }
 
 // A code point that is no surrogate.
+#[tactic(auto, unfolding(rules::specs::Utf8::scalar_value))]
 pub fn is_scalar_value(n: u64) -> bool
     ensures { result ≡ scalar_value n }
 {
-    n <= 0xd7ff || (0xe000 <= n && n <= 0x10ffff)
+    matches!(n, 0..=0xd7ff | 0xe000..=0x10ffff)
 }

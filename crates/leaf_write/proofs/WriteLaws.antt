@@ -1,11 +1,13 @@
 -- Bytes stored as far as the output reaches, turn by turn, and the nodes that they make. Assumes nothing.
 use mathlib.Core.Path.{◌≡◌, refl, sym, ap, ◌∙◌}
-use mathlib.Core.Bool.{Bool, true, false}
+use mathlib.Core.Bool.{Bool}
 use mathlib.Core.List.{List, [], ◌∷◌}
-use Prim.Native.Nat.{ℕ, suc, ◌+◌, ◌-◌, ◌/◌, ◌%◌, ◌≤◌, ◌<◌}
+use Prim.Native.Nat.{ℕ, zero, suc, ◌+◌, ◌-◌, ◌/◌, ◌%◌, ◌≤◌, ◌<◌}
 use native.Mathlib.Omega.{arith}
 use borrow.Author.Tests.{eq-eqb, ne_eqb}
-use lib.ListN.{length, set}
+use lib.ListN.{length, set, take, drop}
+use Rattle.std.specs.Prelude.{Option, Some, None, min}
+use Rattle.std.specs.Int.{to_le_bytes, w64}
 use lib.Seq.{sets, set_out}
 use Rattle.laws.specs.Basics.{choose, little, basics}
 use Rattle.laws.proofs.Bytes.{length-little}
@@ -28,54 +30,63 @@ pub stored_past : (l : List ℕ) (at : ℕ) (t : List ℕ) → length l ≤ at �
 unfolding stored
 stored_past l at t h = sets_past l at t h
 
--- ---- a number's bytes: what was to write is what is left to write
+-- what has no place can be left out
+pub stored_part : (l : List ℕ) (at : ℕ) (t : List ℕ) (n : ℕ) → n ≡ min (length t) (length l - at) → stored l at (take n t) ≡ stored l at t
+unfolding stored
+stored_part l at [] zero e = refl
+stored_part l at [] (suc n) e = refl
+stored_part l at (x ∷ t) zero e = sym (sets_past l at (x ∷ t) (omega arith))
+stored_part l at (x ∷ t) (suc n) e =
+    stored_part (set l at x) (suc at) t n (omega (arith, lib.ListN.length-set l at x))
 
-pub little_start : (l : List ℕ) (at w n : ℕ) → stored l (at + 0) (little (w - 0) n) ≡ stored l at (little w n)
-little_start l at w n =
-    let a : at + 0 ≡ at = omega arith in
-    let b : w - 0 ≡ w = omega arith in
-    λ j. stored l (a j) (little (b j) n)
+-- ---- a number's bytes
 
-pub little_on : (l : List ℕ) (at w i m : ℕ) → i < w → stored (set l (at + i) (m % 256)) (at + (i + 1)) (little (w - (i + 1)) (m / 256)) ≡ stored l (at + i) (little (w - i) m)
-unfolding stored basics
-little_on l at w i m h =
-    let a : at + (i + 1) ≡ suc (at + i) = omega arith in
-    let b : suc (w - (i + 1)) ≡ w - i = omega arith in
-    ap (λ (k : ℕ). sets (set l (at + i) (m % 256)) k (little (w - (i + 1)) (m / 256))) a
-    ∙ ap (λ (k : ℕ). sets l (at + i) (little k m)) b
+take_little : (w k n : ℕ) → w ≤ k → take w (little k n) ≡ little w n
+unfolding little
+take_little zero k n h = refl
+take_little (suc w) zero n h = absurd (omega arith)
+take_little (suc w) (suc k) n h = ap (λ (l : List ℕ). n % 256 ∷ l) (take_little w k (n / 256) (omega arith))
 
-pub little_done : (l : List ℕ) (at w i m : ℕ) → w ≤ i → l ≡ stored l (at + i) (little (w - i) m)
-unfolding stored basics
-little_done l at w i m h =
-    let b : 0 ≡ w - i = omega arith in
-    ap (λ (k : ℕ). sets l (at + i) (little k m)) b
+all_bytes : (n : ℕ) → to_le_bytes w64 n ≡ little 8 n
+unfolding little
+all_bytes n =
+    let b : n / 256 / 256 ≡ n / 65536 = omega arith in
+    let c : n / 65536 / 256 ≡ n / 16777216 = omega arith in
+    let d : n / 16777216 / 256 ≡ n / 4294967296 = omega arith in
+    let e : n / 4294967296 / 256 ≡ n / 1099511627776 = omega arith in
+    let f : n / 1099511627776 / 256 ≡ n / 281474976710656 = omega arith in
+    let g : n / 281474976710656 / 256 ≡ n / 72057594037927936 = omega arith in
+    grind (arith, b, c, d, e, f, g)
+
+pub low_bytes : (w n : ℕ) (l : List ℕ) → w ≤ 8 → l ≡ to_le_bytes w64 n → take w l ≡ little w n
+low_bytes w n l h e = ap (λ (l : List ℕ). take w l) (e ∙ all_bytes n) ∙ take_little w 8 n h
 
 -- ---- nodes
 
 -- none is left
-pub noted_over : (out bs : List ℕ) (p : Page) → p.left ≡ 0 → Noted out bs p out (record { left = 0; at = p.at; over = true })
+pub noted_none : (out bs : List ℕ) (p : Page) {r : Option Page} → p.left ≡ 0 → r ≡ None → Noted out bs p out r
 unfolding noted
-noted_over out bs p e =
+noted_none out bs p e none =
     let b = sym (eq-eqb p.left 0 e) in
     record {
       page_is =
-          ap (λ (t : Bool). choose t (record { left = 0; at = p.at; over = true }) (record { left = p.left - 1; at = p.at + length bs; over = false })) b;
+          none ∙ ap (λ (t : Bool). choose t None (Some (record { left = p.left - 1; at = p.at + length bs }))) b;
       out_is = ap (λ (t : Bool). choose t out (stored out p.at bs)) b;
     }
 
 -- one is spent
-pub noted_one : (out bs : List ℕ) (p : Page) (after : List ℕ) (k : ℕ) → (p.left ≡ 0 → ⊥) → after ≡ stored out p.at bs → k ≡ length bs → Noted out bs p after (record { left = p.left - 1; at = p.at + k; over = false })
+pub noted_one : (out bs : List ℕ) (p : Page) (after : List ℕ) (left k : ℕ) → (1 ≤ p.left) × (left ≡ p.left - 1) → after ≡ stored out p.at bs → k ≡ length bs → Noted out bs p after (Some (record { left = left; at = p.at + k }))
 unfolding noted
-noted_one out bs p after k d e size =
-    let b = sym (ne_eqb p.left 0 d) in
+noted_one out bs p after left k (some_left, less) e size =
+    let b = sym (ne_eqb p.left 0 (λ q. omega (arith, some_left, q))) in
     record {
       page_is =
-          (λ i. record { left = p.left - 1; at = p.at + size i; over = false })
-          ∙ ap (λ (t : Bool). choose t (record { left = 0; at = p.at; over = true }) (record { left = p.left - 1; at = p.at + length bs; over = false })) b;
+          (λ i. Some (record { left = less i; at = p.at + size i }))
+          ∙ ap (λ (t : Bool). choose t None (Some (record { left = p.left - 1; at = p.at + length bs }))) b;
       out_is = e ∙ ap (λ (t : Bool). choose t out (stored out p.at bs)) b;
     }
 
-pub field_stored : (out : List ℕ) (at kind w n : ℕ) → stored (set out at kind) (at + 1) (little w n) ≡ stored out at (kind ∷ little w n)
+pub field_stored : (out : List ℕ) (at kind w n : ℕ) → stored (stored out at (kind ∷ [])) (at + 1) (little w n) ≡ stored out at (kind ∷ little w n)
 unfolding stored
 field_stored out at kind w n =
     let a : at + 1 ≡ suc at = omega arith in
@@ -84,7 +95,7 @@ field_stored out at kind w n =
 pub field_size : (kind w n : ℕ) → 1 + w ≡ length (kind ∷ little w n)
 field_size kind w n = omega (arith, length-little w n)
 
-pub text_stored : (out : List ℕ) (at kind : ℕ) (t : List ℕ) → stored (stored (set out at kind) (at + 1) (little 4 (length t))) (at + 5) t ≡ stored out at (kind ∷ write_text t)
+pub text_stored : (out : List ℕ) (at kind : ℕ) (t : List ℕ) → stored (stored (stored out at (kind ∷ [])) (at + 1) (little 4 (length t))) (at + 5) t ≡ stored out at (kind ∷ write_text t)
 unfolding stored nodes_rules
 text_stored out at kind t =
     let a : at + 1 ≡ suc at = omega arith in
@@ -111,7 +122,7 @@ module _ (k a b : ℕ) where
   kind_small (char n) e = let q : k ≡ 5 = cc in omega arith
   kind_small (number n) e = let q : k ≡ 6 = cc in omega arith
 
-  pub scalar_bare : (x : Scalar) → words ≡ scalar_words x → k < 4 → k ∷ little 0 0 ≡ write_scalar x
+  pub scalar_bare : (x : Scalar) → words ≡ scalar_words x → k < 4 → k ∷ little 0 a ≡ write_scalar x
   unfolding layout_rules nodes_rules basics
   scalar_bare undefined e h = let q : k ≡ 0 = cc in ap (λ (n : ℕ). n ∷ []) q
   scalar_bare nil e h = let q : k ≡ 1 = cc in ap (λ (n : ℕ). n ∷ []) q
@@ -141,5 +152,5 @@ module _ (k a b : ℕ) where
   scalar_long (char n) e l = let q : k ≡ 5 = cc in absurd (omega arith)
   scalar_long (number n) e l = let q : k ≡ 6 = cc in let r : a ≡ n = cc in λ i. q i ∷ little 8 (r i)
 
-pub noted_as : {bs cs : List ℕ} (out : List ℕ) (p : Page) (after : List ℕ) (r : Page) → bs ≡ cs → Noted out bs p after r → Noted out cs p after r
+pub noted_as : {bs cs : List ℕ} (out : List ℕ) (p : Page) (after : List ℕ) (r : Option Page) → bs ≡ cs → Noted out bs p after r → Noted out cs p after r
 noted_as out p after r e n = mathlib.Core.Path.subst (λ (x : List ℕ). Noted out x p after r) e n

@@ -5,7 +5,7 @@
 // read finds 12 and 18 before a byte is written.
 #![tactic(auto)]
 
-ghost use Rattle.std.specs.Prelude.{◌≡◌, ◌∷◌, ◌≤◌, length, set};
+ghost use Rattle.std.specs.Prelude.{◌≡◌, ◌∷◌, ◌≤◌, length};
 ghost use Rattle.laws.specs.Basics.{little};
 ghost use Rattle.rules.specs.Cells.{Scalar};
 ghost use Rattle.rules.specs.Layout.{scalar_words};
@@ -16,108 +16,71 @@ ghost use Rattle.leaf_write.specs.Pages.{Noted};
 
 use leaf_cells::Words;
 
-// How far a datum is written: the nodes that may still be written, the bytes so far, and whether a node was wanted when
-// none was left.
+// How far a datum is written: the nodes that may still be written, and the bytes so far.
 #[derive(Clone, Copy)]
 pub struct Page {
     pub left: usize,
     pub at: usize,
-    pub over: bool,
 }
 
-// A byte, where the output has a place for it.
-fn put_byte(out: &mut [u8], at: usize, b: u8)
-    ensures { out.new ≡ set out.old at b }
+// Bytes, as many as the output has places for.
+fn put_bytes(out: &mut [u8], at: usize, bytes: &[u8])
+    ensures { out.new ≡ stored out.old at bytes.now }
 {
     if at < out.len() {
-        out[at] = b;
+        let n = bytes.len().min(out.len() - at);
+        leaf_rooms::write(out, at, &bytes[..n]);
     }
 }
 
 // The w lowest bytes of a number, lowest first.
 fn put_little(out: &mut [u8], at: usize, w: usize, n: u64)
-    requires { (at ≤ 4294967296) × (w ≤ 8) }
+    requires { w ≤ 8 }
     ensures { out.new ≡ stored out.old at (little w n) }
 {
-    let mut i = 0;
-    let mut m = n;
-    while i < w {
-        put_byte(out, at + i, (m % 256) as u8);
-        m = m / 256;
-        i += 1;
-    }
+    put_bytes(out, at, &n.to_le_bytes()[..w]);
 }
 
-// A text's bytes; none where the output ends before.
-fn put_text(out: &mut [u8], at: usize, text: &[u8])
-    requires { (at ≤ 4294967296) × (length text.now ≤ 4294967296) }
-    ensures { out.new ≡ stored out.old at text.now }
-{
-    if at >= out.len() {
-        return;
-    }
-    let mut i = 0;
-    while i < text.len() {
-        put_byte(out, at + i, text[i]);
-        i += 1;
-    }
-}
-
-// A node that is a kind and a number in w bytes.
-pub fn field(out: &mut [u8], kind: u8, w: usize, n: u64, p: Page) -> Page
+// A node that is a kind and a number in w bytes; none where no node is left.
+//
+// Kept: a kind is a number, since it is a byte of the datum that C lends and is lent (the C interface; rules' Nodes numbers it).
+pub fn field(out: &mut [u8], kind: u8, w: usize, n: u64, p: Page) -> Option<Page>
     requires { (p.at ≤ 67108864) × (w ≤ 8) }
     ensures { Noted out.old (kind ∷ little w n) p out.new result }
 {
-    let at = p.at;
-    if p.left == 0 {
-        return Page {
-            left: 0,
-            at,
-            over: true,
-        };
-    }
-    put_byte(out, at, kind);
-    put_little(out, at + 1, w, n);
-    Page {
-        left: p.left - 1,
-        at: at + (1 + w),
-        over: false,
-    }
+    let left = p.left.checked_sub(1)?;
+    put_bytes(out, p.at, &[kind]);
+    put_little(out, p.at + 1, w, n);
+    Some(Page {
+        left,
+        at: p.at + (1 + w),
+    })
 }
 
-// A string or a name: a kind, a length and the bytes.
-pub fn text(out: &mut [u8], kind: u8, t: &[u8], p: Page) -> Page
+// A string or a name: a kind, a length and the bytes; none where no node is left.
+pub fn text(out: &mut [u8], kind: u8, t: &[u8], p: Page) -> Option<Page>
     requires { (p.at ≤ 67108864) × (length t.now ≤ 67108864) }
     ensures { Noted out.old (kind ∷ write_text t.now) p out.new result }
 {
-    let at = p.at;
-    if p.left == 0 {
-        return Page {
-            left: 0,
-            at,
-            over: true,
-        };
-    }
-    put_byte(out, at, kind);
-    put_little(out, at + 1, 4, t.len() as u64);
-    put_text(out, at + 5, t);
-    Page {
-        left: p.left - 1,
-        at: at + (5 + t.len()),
-        over: false,
-    }
+    let left = p.left.checked_sub(1)?;
+    put_bytes(out, p.at, &[kind]);
+    put_little(out, p.at + 1, 4, t.len() as u64);
+    put_bytes(out, p.at + 5, t);
+    Some(Page {
+        left,
+        at: p.at + (5 + t.len()),
+    })
 }
 
 // A scalar, by its three words: Bool and Char have a number of 4 bytes, a Number has 8.
-pub fn scalar(out: &mut [u8], w: Words, p: Page) -> Page
+pub fn scalar(out: &mut [u8], w: Words, p: Page) -> Option<Page>
     requires { (p.at ≤ 67108864) × ((x : Scalar) × (three w ≡ scalar_words x)) }
     ensures { (x : Scalar) → three w ≡ scalar_words x → Noted out.old (write_scalar x) p out.new result }
 {
-    if w.kind < 4 {
-        field(out, w.kind as u8, 0, 0, p)
-    } else if w.kind < 6 {
-        field(out, w.kind as u8, 4, w.first, p)
-    } else {
-        field(out, w.kind as u8, 8, w.first, p)
-    }
+    let width = match w.kind {
+        0..=3 => 0,
+        4 | 5 => 4,
+        _ => 8,
+    };
+    field(out, w.kind as u8, width, w.first, p)
 }

@@ -5,8 +5,11 @@
 
 ghost use Rattle.std.specs.Prelude.{◌≡◌, length};
 
+use leaf_cells::Words;
+use leaf_map::State;
 use std::io;
 use std::io::Write;
+use stored_cases::{Spaced, number};
 
 // at most so many bytes are read
 const INPUT: usize = 65536;
@@ -22,226 +25,168 @@ const BYTES: usize = 16;
 
 const ELEMENTS: usize = 4;
 
-fn digit(byte: u8) -> u64 {
-    if b'0' <= byte && byte <= b'9' {
-        (byte - b'0') as u64
-    } else if b'a' <= byte && byte <= b'f' {
-        (byte - b'a') as u64 + 10
-    } else {
-        0
-    }
-}
-
-fn number(digits: &[u8]) -> u64 {
-    let mut n: u64 = 0;
-    for d in digits {
-        n = (n << 4) | digit(*d);
-    }
-    n
-}
-
-fn print(n: u64, out: &mut impl Write) -> io::Result<()> {
-    write!(out, "{n} ")
-}
-
-fn print_words(list: &[u64], out: &mut impl Write) -> io::Result<()> {
-    for n in list {
-        print(*n, out)?;
-    }
-    Ok(())
-}
-
-fn wide(n: u8) -> u64 {
-    n as u64
-}
-
-fn print_bytes(list: &[u8], out: &mut impl Write) -> io::Result<()> {
-    for n in list {
-        print(wide(*n), out)?;
-    }
-    Ok(())
-}
-
-fn print_three(w: leaf_cells::Words, out: &mut impl Write) -> io::Result<()> {
-    print(w.kind, out)?;
-    print(w.first, out)?;
-    print(w.second, out)
-}
-
-fn store_cell(
-    words: &mut [u64],
-    slot: usize,
-    w: leaf_cells::Words,
-    out: &mut impl Write,
-) -> io::Result<()>
-    requires { length words.old ≡ 40 }
-{
-    if slot < SLOTS {
-        let change = leaf_cells::store(
-            words,
-            slot,
-            leaf_cells::cell_from(w.kind, w.first, w.second),
-        );
-        let old = change.old;
-        print_three(leaf_cells::cell_words(old), out)?;
-        print_three(leaf_cells::cell_words(leaf_cells::load(words, slot)), out)?;
-    }
-    Ok(())
-}
-
-fn store_element(
-    elems: &mut [u64],
+// A case's fields; the first word's digits are a text too.
+#[derive(Clone, Copy)]
+struct Case<'a> {
+    op: u8,
     at: usize,
-    w: leaf_cells::Words,
-    out: &mut impl Write,
-) -> io::Result<()>
-    requires { length elems.old ≡ 12 }
-{
-    if at < ELEMENTS {
-        let change = leaf_cells::store_element(elems, at, leaf_cells::value_from(w.kind, w.first));
-        let old = change.old;
-        print_three(leaf_cells::value_words(old), out)?;
-        print_three(
-            leaf_cells::value_words(leaf_cells::load_element(elems, at)),
-            out,
-        )?;
-    }
-    Ok(())
+    kind: u64,
+    text: &'a [u8],
+    first: u64,
+    second: u64,
 }
 
-fn store_header(words: &mut [u64], k: usize, n: u64)
-    requires { length words.old ≡ 40 }
-{
-    if k < 8 {
-        words[k] = n;
-    }
-}
-
-fn store_state(map: &mut [u8], slot: usize, state: u8)
-    requires { length map.old ≡ 1 }
-{
-    if slot < SLOTS && state < 4 {
-        leaf_map::set(map, slot, state);
-    }
-}
-
-fn look_up(words: &[u64], map: &[u8], slot: usize, out: &mut impl Write) -> io::Result<()>
-    requires { length words.now ≡ 40 }
-{
-    if words[1] <= 4 {
-        match leaf_cells::look_up(words, map, slot) {
-            leaf_cells::Lookup::Found(c) => print_three(leaf_cells::cell_words(c), out)?,
-            leaf_cells::Lookup::NotInUse => out.write_all(b"not in use ")?,
+impl Case<'_> {
+    fn of(line: &[u8]) -> Case<'_>
+        requires { length line.now ≡ 41 }
+    {
+        let text = &line[7..23];
+        Case {
+            op: line[0],
+            at: number(&line[2..4], 16) as usize,
+            kind: number(&line[5..6], 16),
+            text,
+            first: number(text, 16),
+            second: number(&line[24..40], 16),
         }
     }
-    Ok(())
 }
 
-fn text(bytes: &[u8], place: usize, size: usize, out: &mut impl Write) -> io::Result<()>
-    requires { length bytes.now ≡ 16 }
-{
-    if place <= BYTES {
-        if size <= BYTES - place {
-            print_bytes(leaf_rooms::text(bytes, place, size), out)?;
+// The lists that the cases change.
+#[derive(Drop)]
+struct Heap {
+    words: [u64; WORDS],
+    map: [u8; 1],
+    bytes: [u8; BYTES],
+    elems: [u64; 3 * ELEMENTS],
+}
+
+fn print_three(w: Words, out: &mut impl Write) -> io::Result<()> {
+    write!(out, "{} {} {} ", w.kind, w.first, w.second)
+}
+
+impl Heap {
+    fn store_cell(&mut self, slot: usize, w: Words, out: &mut impl Write) -> io::Result<()> {
+        if slot < SLOTS {
+            let new = leaf_cells::cell_from(w.kind, w.first, w.second);
+            let change = leaf_cells::store(&mut self.words, slot, new);
+            print_three(leaf_cells::cell_words(change.old), out)?;
+            print_three(
+                leaf_cells::cell_words(leaf_cells::load(&self.words, slot)),
+                out,
+            )?;
+        }
+        Ok(())
+    }
+
+    fn store_element(&mut self, at: usize, w: Words, out: &mut impl Write) -> io::Result<()> {
+        if at < ELEMENTS {
+            let new = leaf_cells::value_from(w.kind, w.first);
+            let change = leaf_cells::store_element(&mut self.elems, at, new);
+            print_three(leaf_cells::value_words(change.old), out)?;
+            print_three(
+                leaf_cells::value_words(leaf_cells::load_element(&self.elems, at)),
+                out,
+            )?;
+        }
+        Ok(())
+    }
+
+    fn store_header(&mut self, k: usize, n: u64) {
+        if k < 8 {
+            self.words[k] = n;
         }
     }
-    Ok(())
-}
 
-fn append(words: &mut [u64], bytes: &mut [u8], text: &[u8], out: &mut impl Write) -> io::Result<()>
-    requires { (length words.old ≡ 40) × (length bytes.old ≡ 16) }
-{
-    let used = words[4] as usize;
-    if used <= BYTES {
-        if text.len() <= BYTES - used {
-            return print(leaf_rooms::append_text(words, bytes, text) as u64, out);
+    fn store_state(&mut self, slot: usize, state: u8) {
+        if slot < SLOTS && state < 4 {
+            leaf_map::set(&mut self.map, slot, State::of_bits(state));
         }
     }
-    out.write_all(b"no room ")
-}
 
-fn reserve(words: &mut [u64], n: usize, out: &mut impl Write) -> io::Result<()>
-    requires { length words.old ≡ 40 }
-{
-    let used = words[5] as usize;
-    if used <= ELEMENTS {
-        if n <= ELEMENTS - used {
-            return print(leaf_rooms::reserve_elements(words, n) as u64, out);
-        }
-    }
-    out.write_all(b"no room ")
-}
-
-fn show(words: &[u64], bytes: &[u8], elems: &[u64], out: &mut impl Write) -> io::Result<()> {
-    out.write_all(b"| ")?;
-    print_words(words, out)?;
-    print_bytes(bytes, out)?;
-    print_words(elems, out)?;
-    out.write_all(b"\n")
-}
-
-fn rooms(words: &mut [u64], bytes: &mut [u8], line: &[u8], out: &mut impl Write) -> io::Result<()>
-    requires { (length words.old ≡ 40) × (length bytes.old ≡ 16) × (length line.now ≡ 41) }
-{
-    let n = number(&line[2..4]) as usize;
-    let place = number(&line[7..23]) as usize;
-    let size = number(&line[24..40]) as usize;
-    match line[0] {
-        b't' => text(bytes, place, size, out),
-        b'a' => {
-            if n <= 16 {
-                let end = 7 + n;
-                return append(words, bytes, &line[7..end], out);
+    fn look_up(&self, slot: usize, out: &mut impl Write) -> io::Result<()> {
+        if self.words[1] <= 4 {
+            match leaf_cells::look_up(&self.words, &self.map, slot) {
+                Some(c) => print_three(leaf_cells::cell_words(c), out)?,
+                None => write!(out, "not in use ")?,
             }
-            Ok(())
         }
-        b'r' => reserve(words, n, out),
-        _ => Ok(()),
+        Ok(())
+    }
+
+    fn text(&self, place: usize, size: usize, out: &mut impl Write) -> io::Result<()> {
+        if place <= BYTES && size <= BYTES - place {
+            write!(
+                out,
+                "{}",
+                Spaced(leaf_rooms::text(&self.bytes, place, size))
+            )?;
+        }
+        Ok(())
+    }
+
+    fn append(&mut self, text: &[u8], out: &mut impl Write) -> io::Result<()> {
+        let used = self.words[4] as usize;
+        if used <= BYTES && text.len() <= BYTES - used {
+            let place = leaf_rooms::append_text(&mut self.words, &mut self.bytes, text);
+            write!(out, "{place} ")
+        } else {
+            write!(out, "no room ")
+        }
+    }
+
+    fn reserve(&mut self, n: usize, out: &mut impl Write) -> io::Result<()> {
+        let used = self.words[5] as usize;
+        if used <= ELEMENTS && n <= ELEMENTS - used {
+            let place = leaf_rooms::reserve_elements(&mut self.words, n);
+            write!(out, "{place} ")
+        } else {
+            write!(out, "no room ")
+        }
+    }
+
+    fn run(&mut self, case: Case<'_>, out: &mut impl Write) -> io::Result<()> {
+        let w = Words {
+            kind: case.kind,
+            first: case.first,
+            second: case.second,
+        };
+        // Kept: letters; an enum of commands is no plainer, since each letter is matched here and nowhere else.
+        match case.op {
+            b'c' => self.store_cell(case.at, w, out)?,
+            b'e' => self.store_element(case.at, w, out)?,
+            b'h' => self.store_header(case.at, case.first),
+            b'm' => self.store_state(case.at, (case.kind % 4) as u8),
+            b'l' => self.look_up(case.at, out)?,
+            b't' => self.text(case.first as usize, case.second as usize, out)?,
+            b'a' => {
+                if let Some(text) = case.text.get(..case.at) {
+                    self.append(text, out)?;
+                }
+            }
+            b'r' => self.reserve(case.at, out)?,
+            _ => {}
+        }
+        Ok(())
+    }
+
+    fn show(&self, out: &mut impl Write) -> io::Result<()> {
+        write!(out, "| {}", Spaced(&self.words))?;
+        write!(out, "{}", Spaced(&self.bytes))?;
+        writeln!(out, "{}", Spaced(&self.elems))
     }
 }
 
-fn cells(
-    words: &mut [u64],
-    map: &mut [u8],
-    elems: &mut [u64],
-    line: &[u8],
-    out: &mut impl Write,
-) -> io::Result<()>
-    requires { (length words.old ≡ 40) × (length map.old ≡ 1) × (length elems.old ≡ 12) × (length line.now ≡ 41) }
-{
-    let x = number(&line[2..4]) as usize;
-    let kind = number(&line[5..6]);
-    let first = number(&line[7..23]);
-    let w = leaf_cells::Words {
-        kind,
-        first,
-        second: number(&line[24..40]),
+fn run(input: &[u8], out: &mut impl Write) -> io::Result<()> {
+    let mut heap = Heap {
+        words: [0; WORDS],
+        map: [0; 1],
+        bytes: [0; BYTES],
+        elems: [0; 3 * ELEMENTS],
     };
-    match line[0] {
-        b'c' => store_cell(words, x, w, out)?,
-        b'e' => store_element(elems, x, w, out)?,
-        b'h' => store_header(words, x, first),
-        b'm' => store_state(map, x, (kind % 4) as u8),
-        b'l' => look_up(words, map, x, out)?,
-        _ => {}
-    }
-    Ok(())
-}
-
-fn run(
-    words: &mut [u64],
-    map: &mut [u8],
-    bytes: &mut [u8],
-    elems: &mut [u64],
-    input: &[u8],
-    out: &mut impl Write,
-) -> io::Result<()>
-    requires { (length words.old ≡ 40) × (length map.old ≡ 1) × (length bytes.old ≡ 16) × (length elems.old ≡ 12) }
-{
     for line in input.chunks_exact(WIDTH) {
-        cells(words, map, elems, line, out)?;
-        rooms(words, bytes, line, out)?;
-        show(words, bytes, elems, out)?;
+        heap.run(Case::of(line), out)?;
+        heap.show(out)?;
     }
     Ok(())
 }
@@ -250,17 +195,6 @@ fn main(rt: HostRuntime) -> io::Result<()> {
     let mut space = [0u8; INPUT];
     let n = whole_input::read_full(&mut rt.reader(), &mut space)?;
     let mut out = io::writer(&rt);
-    let mut words = [0u64; WORDS];
-    let mut map = [0u8; 1];
-    let mut bytes = [0u8; BYTES];
-    let mut elems = [0u64; 3 * ELEMENTS];
-    run(
-        &mut words,
-        &mut map,
-        &mut bytes,
-        &mut elems,
-        &space[..n],
-        &mut out,
-    )?;
+    run(&space[..n], &mut out)?;
     out.flush()
 }

@@ -3,94 +3,47 @@
 // made by tools/check_cases.py.
 #![tactic(auto)]
 
-ghost use Rattle.std.specs.Prelude.{◌+◌, ◌*◌, ◌<◌, ◌≤◌, length};
-
+use leaf_nodes::Fault;
+use refusals::Refusal;
 use std::io;
 use std::io::Write;
+use stored_cases::unhex;
 
 // at most so many bytes are read
 const INPUT: usize = 131072;
 
-// A digit of lower-case hex; 16 for any other byte.
-fn digit(byte: u8) -> u8
-    ensures { result ≤ 16 }
-{
-    match byte {
-        b'0'..=b'9' => byte - b'0',
-        b'a'..=b'f' => byte - b'a' + 10,
-        _ => 16,
+fn fault_name(fault: Fault) -> &'static str {
+    match fault {
+        Fault::UnknownKind => "unknown-kind",
+        Fault::CutShort => "cut-short",
+        Fault::LeftOver => "left-over",
+        Fault::BadBool => "bad-bool",
+        Fault::BadChar => "bad-char",
+        Fault::BadUtf8 => "bad-utf8",
     }
 }
 
-// The bytes that the text begins with, in hex, and how many they are.
-fn unhex(text: &[u8], bytes: &mut [u8]) -> usize
-    ensures { (result ≤ length bytes.new) × (2 * result ≤ length text.now) }
-{
-    let mut n = 0;
-    while n < bytes.len() {
-        if text.len() - 2 * n < 2 {
-            return n;
-        }
-        let high = digit(text[2 * n]);
-        let low = digit(text[2 * n + 1]);
-        if high == 16 {
-            return n;
-        }
-        if low == 16 {
-            return n;
-        }
-        bytes[n] = high * 16 + low;
-        n += 1;
+fn say(checked: Result<(), Refusal>, out: &mut impl Write) -> io::Result<()> {
+    let Err(refusal) = checked else {
+        return writeln!(out, "ok");
+    };
+    write!(out, "refused={}", refusal.number())?;
+    if let Refusal::Malformed(fault, node) = refusal {
+        write!(out, " {} {node}", fault_name(fault))?;
     }
-    n
-}
-
-fn say_fault(f: leaf_nodes::Fault, out: &mut impl Write) -> io::Result<()> {
-    match f {
-        leaf_nodes::Fault::UnknownKind => out.write_all(b" unknown-kind "),
-        leaf_nodes::Fault::CutShort => out.write_all(b" cut-short "),
-        leaf_nodes::Fault::LeftOver => out.write_all(b" left-over "),
-        leaf_nodes::Fault::BadBool => out.write_all(b" bad-bool "),
-        leaf_nodes::Fault::BadChar => out.write_all(b" bad-char "),
-        leaf_nodes::Fault::BadUtf8 => out.write_all(b" bad-utf8 "),
-    }
-}
-
-fn say_malformed(f: leaf_nodes::Fault, node: usize, out: &mut impl Write) -> io::Result<()> {
-    out.write_all(b"refused=11")?;
-    say_fault(f, out)?;
-    writeln!(out, "{node}")
-}
-
-fn say(c: heap_check::Checked, out: &mut impl Write) -> io::Result<()> {
-    match c {
-        heap_check::Checked::Good => out.write_all(b"ok\n"),
-        heap_check::Checked::Malformed(f, node) => say_malformed(f, node, out),
-        heap_check::Checked::OverLimit => out.write_all(b"refused=12\n"),
-        heap_check::Checked::EarlyLabel => out.write_all(b"refused=13\n"),
-    }
-}
-
-// The answer to the case that the text begins with, and how many bytes of it that was.
-fn answer(text: &[u8], bytes: &mut [u8]) -> (heap_check::Checked, usize)
-    ensures { result.1 ≤ length text.now }
-{
-    let n = unhex(text, bytes);
-    (heap_check::check(&bytes[..n]), 2 * n)
+    writeln!(out)
 }
 
 // Answers one case after the other. Each ends in a line's end.
 fn run(text: &[u8], bytes: &mut [u8], out: &mut impl Write) -> io::Result<()> {
-    let mut at = 0;
-    while at < text.len() {
-        let (checked, n) = answer(&text[at..], bytes);
-        say(checked, out)?;
-        at += n;
-        if at < text.len() {
-            at += 1;
-        } else {
+    let mut rest = text;
+    while !rest.is_empty() {
+        let n = unhex(rest, bytes);
+        say(heap_check::check(&bytes[..n]), out)?;
+        let Some((_, after)) = rest[2 * n..].split_first() else {
             return Ok(());
-        }
+        };
+        rest = after;
     }
     Ok(())
 }

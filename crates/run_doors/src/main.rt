@@ -4,10 +4,11 @@
 // What the cases are, and their answers, is made by tools/doors_cases.py.
 #![tactic(auto)]
 
-ghost use Rattle.std.specs.Prelude.{◌≡◌, ◌+◌, ◌*◌, ◌≤◌, length};
+ghost use Rattle.std.specs.Prelude.{◌≡◌, ◌≤◌, length};
 
 use std::io;
 use std::io::Write;
+use stored_cases::{Spaced, number};
 
 // at most so many bytes are read
 const INPUT: usize = 262144;
@@ -23,357 +24,211 @@ const ELEMENTS: usize = 49156;
 
 const SCRATCH: usize = 32896;
 
-// how much of each list is lent
+// A line's fields. A datum's digits may be missing.
 #[derive(Clone, Copy)]
-struct Lent {
-    words: usize,
-    map: usize,
-    bytes: usize,
-    elems: usize,
-    scratch: usize,
+struct Case<'a> {
+    op: u8,
+    list: u8,
+    at: usize,
+    n: u64,
+    datum: &'a [u8],
 }
 
-// A digit of lower-case hex; 0 for any other byte.
-fn digit(byte: u8) -> u8
-    ensures { result ≤ 15 }
-{
-    match byte {
-        b'0'..=b'9' => byte - b'0',
-        b'a'..=b'f' => byte - b'a' + 10,
-        _ => 0,
-    }
-}
-
-fn wide(n: u8) -> u64 {
-    n as u64
-}
-
-fn number(digits: &[u8]) -> u64 {
-    let mut n: u64 = 0;
-    for d in digits {
-        n = (n << 4) | wide(digit(*d));
-    }
-    n
-}
-
-// The bytes that the text begins with, in hex, as far as there is room, and how many they are.
-fn unhex(text: &[u8], bytes: &mut [u8]) -> usize
-    ensures { (result ≤ length bytes.new) × (length bytes.new ≡ length bytes.old) }
-{
-    let mut n = 0;
-    while n < bytes.len() {
-        if text.len() - 2 * n < 2 {
-            return n;
+impl Case<'_> {
+    // None of a line too short, which is left out.
+    fn of(line: &[u8]) -> Option<Case<'_>> {
+        if line.len() < 24 {
+            return None;
         }
-        bytes[n] = digit(text[2 * n]) * 16 + digit(text[2 * n + 1]);
-        n += 1;
+        Some(Case {
+            op: line[0],
+            list: line[6],
+            at: number(&line[2..7], 16) as usize,
+            n: number(&line[8..24], 16),
+            datum: &line[24..],
+        })
     }
-    n
 }
 
-fn print(n: u64, out: &mut impl Write) -> io::Result<()> {
-    write!(out, "{n} ")
+// The lists as they are lent to the calls.
+#[derive(Drop)]
+struct Lent<'a> {
+    words: &'a mut [u64],
+    map: &'a mut [u8],
+    bytes: &'a mut [u8],
+    elems: &'a mut [u64],
+    scratch: &'a mut [u64],
 }
 
-fn print_bytes(list: &[u8], out: &mut impl Write) -> io::Result<()> {
-    for n in list {
-        print(wide(*n), out)?;
-    }
-    Ok(())
-}
-
-fn mixed(sum: u64, n: u64) -> u64 {
-    ((sum << 7) | (sum >> 57)).wrapping_add(n)
-}
-
-fn sum_words(list: &[u64], start: u64) -> u64 {
+fn mixed<T: Copy>(list: &[T], start: u64) -> u64
+where
+    u64: From<T>,
+{
     let mut sum = start;
     for n in list {
-        sum = mixed(sum, *n);
+        sum = sum.rotate_left(7).wrapping_add(u64::from(*n));
     }
     sum
 }
 
-fn sum_bytes(list: &[u8], start: u64) -> u64 {
-    let mut sum = start;
-    for n in list {
-        sum = mixed(sum, wide(*n));
+impl Lent<'_> {
+    // "s": setup with a chunk.
+    fn setup(&mut self, chunk: u64, out: &mut impl Write) -> io::Result<()> {
+        let told = c_doors::talvongre_setup(self.words, self.map, self.bytes, self.elems, chunk);
+        write!(out, "{told} ")
     }
-    sum
-}
 
-fn show(
-    words: &[u64],
-    map: &[u8],
-    bytes: &[u8],
-    elems: &[u64],
-    scratch: &[u64],
-    out: &mut impl Write,
-) -> io::Result<()> {
-    let sum = sum_bytes(bytes, sum_bytes(map, sum_words(words, 0)));
-    let all = sum_words(scratch, sum_words(elems, sum));
-    writeln!(out, "| {all}")
-}
-
-fn least(n: u64, most: usize) -> usize
-    ensures { result ≤ most }
-{
-    if n <= most as u64 { n as usize } else { most }
-}
-
-// "l": how much of a list is lent from now on.
-fn lengths(l: Lent, line: &[u8]) -> Lent {
-    let mut after = l;
-    if line.len() < 24 {
-        return after;
+    fn counts(&self, out: &mut impl Write) -> io::Result<()> {
+        let mut n = 777;
+        let told = c_doors::talvongre_capacity(
+            self.words, self.map, self.bytes, self.elems, &mut n,
+        );
+        write!(out, "{told} {n} ")?;
+        n = 777;
+        let told = c_doors::talvongre_free(self.words, self.map, self.bytes, self.elems, &mut n);
+        write!(out, "{told} {n} ")?;
+        n = 777;
+        let told = c_doors::talvongre_used(self.words, self.map, self.bytes, self.elems, &mut n);
+        write!(out, "{told} {n} ")
     }
-    let n = number(&line[8..24]);
-    if line[0] == b'l' {
-        match line[6] {
-            b'0' => after.words = least(n, WORDS),
-            b'1' => after.map = least(n, MAP),
-            b'2' => after.bytes = least(n, BYTES),
-            b'3' => after.elems = least(n, ELEMENTS),
-            _ => after.scratch = least(n, SCRATCH),
+
+    fn text(&self, slot: u64, out: &mut impl Write) -> io::Result<()> {
+        let mut place = 777;
+        let mut size = 777;
+        let told = c_doors::talvongre_text(
+            self.words, self.map, self.bytes, self.elems, slot, &mut place, &mut size,
+        );
+        write!(out, "{told} {place} {size} ")?;
+        let text = doors::text(self.words, self.map, self.bytes, self.elems, slot);
+        write!(out, "{}", Spaced(text))
+    }
+
+    // Puts the datum of these digits; a byte that is no digit counts as 0.
+    fn put(&mut self, digits: &[u8], out: &mut impl Write) -> io::Result<()> {
+        let mut datum = [0u8; 8192];
+        for (byte, pair) in datum.iter_mut().zip(digits.chunks_exact(2)) {
+            *byte = (number(pair, 16) % 256) as u8;
+        }
+        let size = datum.len().min(digits.len() / 2);
+        let mut slot = 777;
+        let told = c_doors::talvongre_put(
+            self.words,
+            self.map,
+            self.bytes,
+            self.elems,
+            self.scratch,
+            &datum[..size],
+            &mut slot,
+        );
+        write!(out, "{told} {slot} ")
+    }
+
+    // "q" asks for every count and the text of a slot, and then puts no datum.
+    fn calls(&mut self, case: Case<'_>, out: &mut impl Write) -> io::Result<()> {
+        // Kept: letters; an enum of commands is no plainer, since each letter is matched here and nowhere else.
+        match case.op {
+            b's' => self.setup(case.n, out),
+            b'p' => self.put(case.datum, out),
+            b'q' => {
+                self.counts(out)?;
+                self.text(case.n, out)?;
+                self.put(case.datum, out)
+            }
+            _ => Ok(()),
         }
     }
-    after
+
+    fn show(&self, out: &mut impl Write) -> io::Result<()> {
+        let words = mixed(self.words, 0);
+        let bytes = mixed(self.bytes, mixed(self.map, words));
+        let all = mixed(self.scratch, mixed(self.elems, bytes));
+        writeln!(out, "| {all}")
+    }
 }
 
-fn store_word(list: &mut [u64], at: usize, n: u64)
-    ensures { length list.new ≡ length list.old }
-{
+// The lists, and how much of each is lent.
+#[derive(Drop)]
+struct Room {
+    words: [u64; WORDS],
+    map: [u8; MAP],
+    bytes: [u8; BYTES],
+    elems: [u64; ELEMENTS],
+    scratch: [u64; SCRATCH],
+    lent_words: usize,
+    lent_map: usize,
+    lent_bytes: usize,
+    lent_elems: usize,
+    lent_scratch: usize,
+}
+
+fn store<T: Copy>(list: &mut [T], at: usize, x: T) {
     if at < list.len() {
-        list[at] = n;
+        list[at] = x;
     }
 }
 
-fn store_byte(list: &mut [u8], at: usize, n: u8)
-    ensures { length list.new ≡ length list.old }
-{
-    if at < list.len() {
-        list[at] = n;
-    }
+// So much of a list, or all of it.
+fn part<T>(list: &mut [T], size: usize) -> &mut [T] {
+    let n = list.len().min(size);
+    &mut list[..n]
 }
 
-// "w", "m", "b", "e", "x": one value of a list is changed.
-fn stores(
-    words: &mut [u64],
-    map: &mut [u8],
-    bytes: &mut [u8],
-    elems: &mut [u64],
-    scratch: &mut [u64],
-    line: &[u8],
-)
-    requires { 24 ≤ length line.now }
-{
-    let at = number(&line[2..7]) as usize;
-    let n = number(&line[8..24]);
-    let byte = digit(line[22]) * 16 + digit(line[23]);
-    match line[0] {
-        b'w' => store_word(words, at, n),
-        b'm' => store_byte(map, at, byte),
-        b'b' => store_byte(bytes, at, byte),
-        b'e' => store_word(elems, at, n),
-        b'x' => store_word(scratch, at, n),
-        _ => {}
-    }
-}
-
-// "s": setup with a chunk.
-fn setup(
-    words: &mut [u64],
-    map: &mut [u8],
-    bytes: &mut [u8],
-    elems: &mut [u64],
-    line: &[u8],
-    out: &mut impl Write,
-) -> io::Result<()>
-    requires { 24 ≤ length line.now }
-{
-    if line[0] == b's' {
-        let n = c_doors::talvongre_setup(words, map, bytes, elems, number(&line[8..24]));
-        print(n as u64, out)?;
-    }
-    Ok(())
-}
-
-fn counts(
-    words: &[u64],
-    map: &[u8],
-    bytes: &[u8],
-    elems: &[u64],
-    out: &mut impl Write,
-) -> io::Result<()> {
-    let mut n = 777;
-    print(
-        c_doors::talvongre_capacity(words, map, bytes, elems, &mut n) as u64,
-        out,
-    )?;
-    print(n, out)?;
-    n = 777;
-    print(
-        c_doors::talvongre_free(words, map, bytes, elems, &mut n) as u64,
-        out,
-    )?;
-    print(n, out)?;
-    n = 777;
-    print(
-        c_doors::talvongre_used(words, map, bytes, elems, &mut n) as u64,
-        out,
-    )?;
-    print(n, out)
-}
-
-fn text(
-    words: &[u64],
-    map: &[u8],
-    bytes: &[u8],
-    elems: &[u64],
-    slot: u64,
-    out: &mut impl Write,
-) -> io::Result<()> {
-    let mut place = 777;
-    let mut size = 777;
-    let n = c_doors::talvongre_text(words, map, bytes, elems, slot, &mut place, &mut size);
-    print(n as u64, out)?;
-    print(place, out)?;
-    print(size, out)?;
-    print_bytes(doors::text(words, map, bytes, elems, slot), out)
-}
-
-// "q": every count, and the text of a slot; the put of no datum follows.
-fn ask(
-    words: &[u64],
-    map: &[u8],
-    bytes: &[u8],
-    elems: &[u64],
-    line: &[u8],
-    out: &mut impl Write,
-) -> io::Result<()>
-    requires { 24 ≤ length line.now }
-{
-    if line[0] == b'q' {
-        counts(words, map, bytes, elems, out)?;
-        text(words, map, bytes, elems, number(&line[8..24]), out)?;
-    }
-    Ok(())
-}
-
-fn puts(op: u8) -> bool {
-    op == b'p' || op == b'q'
-}
-
-// "p" and "q": puts the datum that follows.
-fn put(
-    words: &mut [u64],
-    map: &mut [u8],
-    bytes: &mut [u8],
-    elems: &mut [u64],
-    scratch: &mut [u64],
-    line: &[u8],
-    out: &mut impl Write,
-) -> io::Result<()>
-    requires { 24 ≤ length line.now }
-{
-    if !puts(line[0]) {
-        return Ok(());
-    }
-    let mut datum = [0u8; 8192];
-    let n = unhex(&line[24..], &mut datum);
-    let mut slot = 777;
-    let k = c_doors::talvongre_put(words, map, bytes, elems, scratch, &datum[..n], &mut slot);
-    print(k as u64, out)?;
-    print(slot, out)
-}
-
-// The calls on what is lent.
-fn calls(
-    words: &mut [u64],
-    map: &mut [u8],
-    bytes: &mut [u8],
-    elems: &mut [u64],
-    scratch: &mut [u64],
-    line: &[u8],
-    out: &mut impl Write,
-) -> io::Result<()>
-    requires { 24 ≤ length line.now }
-{
-    setup(words, map, bytes, elems, line, out)?;
-    ask(words, map, bytes, elems, line, out)?;
-    put(words, map, bytes, elems, scratch, line, out)?;
-    show(words, map, bytes, elems, scratch, out)
-}
-
-// One line, with so much of each list lent; a line too short is left out.
-fn step(
-    words: &mut [u64],
-    map: &mut [u8],
-    bytes: &mut [u8],
-    elems: &mut [u64],
-    scratch: &mut [u64],
-    l: Lent,
-    line: &[u8],
-    out: &mut impl Write,
-) -> io::Result<()> {
-    if line.len() < 24 {
-        return Ok(());
-    }
-    stores(words, map, bytes, elems, scratch, line);
-    let w = least(l.words as u64, words.len());
-    let m = least(l.map as u64, map.len());
-    let b = least(l.bytes as u64, bytes.len());
-    let e = least(l.elems as u64, elems.len());
-    let s = least(l.scratch as u64, scratch.len());
-    calls(
-        &mut words[..w],
-        &mut map[..m],
-        &mut bytes[..b],
-        &mut elems[..e],
-        &mut scratch[..s],
-        line,
-        out,
-    )
-}
-
-// How long the line is that the text begins with, with its end.
-fn line_length(text: &[u8]) -> usize
-    requires { 1 ≤ length text.now }
-    ensures { (1 ≤ result) × (result ≤ length text.now) }
-{
-    let mut n = 1;
-    while n < text.len() {
-        if text[n - 1] == b'\n' {
-            return n;
+impl Room {
+    // "l": how much of a list is lent from now on.
+    fn lend(&mut self, list: u8, n: usize) {
+        match list {
+            b'0' => self.lent_words = n,
+            b'1' => self.lent_map = n,
+            b'2' => self.lent_bytes = n,
+            b'3' => self.lent_elems = n,
+            _ => self.lent_scratch = n,
         }
-        n += 1;
     }
-    n
+
+    // "w", "m", "b", "e", "x": one value of a list is changed.
+    fn change(&mut self, case: Case<'_>) {
+        match case.op {
+            b'l' => self.lend(case.list, case.n as usize),
+            b'w' => store(&mut self.words, case.at, case.n),
+            b'm' => store(&mut self.map, case.at, (case.n % 256) as u8),
+            b'b' => store(&mut self.bytes, case.at, (case.n % 256) as u8),
+            b'e' => store(&mut self.elems, case.at, case.n),
+            b'x' => store(&mut self.scratch, case.at, case.n),
+            _ => {}
+        }
+    }
+
+    fn run(&mut self, case: Case<'_>, out: &mut impl Write) -> io::Result<()> {
+        self.change(case);
+        let mut lent = Lent {
+            words: part(&mut self.words, self.lent_words),
+            map: part(&mut self.map, self.lent_map),
+            bytes: part(&mut self.bytes, self.lent_bytes),
+            elems: part(&mut self.elems, self.lent_elems),
+            scratch: part(&mut self.scratch, self.lent_scratch),
+        };
+        lent.calls(case, out)?;
+        lent.show(out)
+    }
 }
 
-// Answers one line after the other.
-fn run(
-    words: &mut [u64],
-    map: &mut [u8],
-    bytes: &mut [u8],
-    elems: &mut [u64],
-    scratch: &mut [u64],
-    text: &[u8],
-    out: &mut impl Write,
-) -> io::Result<()> {
-    let mut l = Lent {
-        words: 0,
-        map: 0,
-        bytes: 0,
-        elems: 0,
-        scratch: 0,
+fn run(input: &[u8], out: &mut impl Write) -> io::Result<()> {
+    let mut room = Room {
+        words: [0; WORDS],
+        map: [0; MAP],
+        bytes: [0; BYTES],
+        elems: [0; ELEMENTS],
+        scratch: [0; SCRATCH],
+        lent_words: 0,
+        lent_map: 0,
+        lent_bytes: 0,
+        lent_elems: 0,
+        lent_scratch: 0,
     };
-    let mut at = 0;
-    while at < text.len() {
-        let end = at + line_length(&text[at..]);
-        l = lengths(l, &text[at..end]);
-        step(words, map, bytes, elems, scratch, l, &text[at..end], out)?;
-        at = end;
+    for line in input.split_inclusive(|byte| *byte == b'\n') {
+        if let Some(case) = Case::of(line) {
+            room.run(case, out)?;
+        }
     }
     Ok(())
 }
@@ -382,19 +237,6 @@ fn main(rt: HostRuntime) -> io::Result<()> {
     let mut space = [0u8; INPUT];
     let n = whole_input::read_full(&mut rt.reader(), &mut space)?;
     let mut out = io::writer(&rt);
-    let mut words = [0u64; WORDS];
-    let mut map = [0u8; MAP];
-    let mut bytes = [0u8; BYTES];
-    let mut elems = [0u64; ELEMENTS];
-    let mut scratch = [0u64; SCRATCH];
-    run(
-        &mut words,
-        &mut map,
-        &mut bytes,
-        &mut elems,
-        &mut scratch,
-        &space[..n],
-        &mut out,
-    )?;
+    run(&space[..n], &mut out)?;
     out.flush()
 }

@@ -64,13 +64,13 @@ module _ (lent left : ℕ) (ws map : List ℕ) (g : Giving lent left ws map) (so
       (subst (λ (m : List ℕ). CanAlloc (words_of lent g.heap) m) (sym g.map_is)
       (can_alloc lent g.heap g.growing has_room))
 
-  pub gives_on : (slot : ℕ) (ws' map' : List ℕ) → Popped (ready ws) map slot ws' map' → Giving lent (left - 1) ws' map'
-  gives_on slot ws' map' p =
+  pub gives_on : (slot fewer : ℕ) (ws' map' : List ℕ) → fewer ≡ left - 1 → Popped (ready ws) map slot ws' map' → Giving lent fewer ws' map'
+  gives_on slot fewer ws' map' e p =
       let given = alloc_given lent g.heap g.growing has_room ws map slot ws' map' g.words_are g.map_is p in
       record {
         heap = (alloc g.heap).heap;
         words_are = given.words_given;
         map_is = given.map-given;
         growing = alloc_growing lent g.heap g.growing has_room;
-        left_is = omega (arith, alloc_available lent g.heap g.growing has_room, g.left_is);
+        left_is = omega (arith, alloc_available lent g.heap g.growing has_room, g.left_is, e);
       }

@@ -10,6 +10,7 @@ ghost use Rattle.rules.specs.Layout.{map_bytes};
 
 use std::io;
 use std::io::Write;
+use stored_cases::number;
 
 // at most so many bytes are read
 const INPUT: usize = 4096;
@@ -18,56 +19,24 @@ const WIDTH: usize = 10;
 
 const MOST: usize = 24;
 
-fn digit(byte: u8) -> usize
-    ensures { result ≤ 9 }
-{
-    match byte {
-        b'0'..=b'9' => (byte - b'0') as usize,
-        _ => 0,
-    }
-}
-
-// Four digits.
-fn number(input: &[u8], at: usize) -> usize
-    requires { at + 4 ≤ length input.now }
-{
-    1000 * digit(input[at])
-        + 100 * digit(input[at + 1])
-        + 10 * digit(input[at + 2])
-        + digit(input[at + 3])
-}
-
-fn print(n: usize, out: &mut impl Write) -> io::Result<()> {
-    write!(out, "{n} ")
-}
-
-fn flag(is: bool, out: &mut impl Write) -> io::Result<()> {
-    if is {
-        out.write_all(b"1 ")
-    } else {
-        out.write_all(b"0 ")
-    }
-}
-
 fn sizes(chunk: usize, lent: usize, out: &mut impl Write) -> io::Result<()>
     requires le_chunk { 4 ≤ chunk }
     requires chunk_le_lent { chunk ≤ lent }
     requires lent_bound { lent ≤ 4096 }
 {
     let mut size = chunk;
-    print(size, out)?;
+    write!(out, "{size} ")?;
     for _ in 0..16u8 {
         let next = leaf_free::grown(chunk, size);
         if next <= lent {
-            print(next, out)?;
+            write!(out, "{next} ")?;
             size = next;
         }
     }
-    out.write_all(b"ends ")?;
-    print(leaf_free::fitting(chunk, lent, chunk), out)?;
-    flag(leaf_free::reaches(chunk, size), out)?;
-    flag(leaf_free::reaches(chunk, lent), out)?;
-    out.write_all(b"\n")
+    let end = leaf_free::fitting(chunk, lent, chunk);
+    let size_reached = u8::from(leaf_free::reaches(chunk, size));
+    let lent_reached = u8::from(leaf_free::reaches(chunk, lent));
+    writeln!(out, "ends {end} {size_reached} {lent_reached} ")
 }
 
 // Every slot that a heap of these lent slots can give.
@@ -86,13 +55,11 @@ fn slots(
     requires lent_bound { lent ≤ 4096 }
 {
     leaf_free::fresh(words, chunk);
-    let mut left = leaf_free::fitting(chunk, lent, chunk);
-    while 0 < left {
-        let slot = leaf_free::alloc(words, map);
-        print(slot, out)?;
-        left -= 1;
+    let size = leaf_free::fitting(chunk, lent, chunk);
+    for _ in 0..size {
+        write!(out, "{} ", leaf_free::alloc(words, map))?;
     }
-    out.write_all(b"\n")
+    writeln!(out)
 }
 
 fn answer(chunk: usize, lent: usize, out: &mut impl Write) -> io::Result<()> {
@@ -113,9 +80,20 @@ fn answer(chunk: usize, lent: usize, out: &mut impl Write) -> io::Result<()> {
     Ok(())
 }
 
+// The chunk and the lent slots of a case.
+fn read(case: &[u8]) -> (usize, usize)
+    requires { length case.now ≡ 10 }
+{
+    (
+        number(&case[..4], 10) as usize,
+        number(&case[5..9], 10) as usize,
+    )
+}
+
 fn run(input: &[u8], out: &mut impl Write) -> io::Result<()> {
     for case in input.chunks_exact(WIDTH) {
-        answer(number(case, 0), number(case, 5), out)?;
+        let (chunk, lent) = read(case);
+        answer(chunk, lent, out)?;
     }
     Ok(())
 }

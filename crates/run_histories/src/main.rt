@@ -8,75 +8,44 @@
 #![tactic(auto)]
 
 ghost use Rattle.std.specs.Prelude.{◌≡◌, ◌≤◌, length};
+ghost use Rattle.leaf_lists.specs.Lists.{lent_of};
 
+use leaf_lists::Lists;
 use std::io;
 use std::io::Write;
+use stored_cases::{Hex, digit, unhex};
 
 // at most so many bytes are read
 const INPUT: usize = 262144;
 
 // A number of the list; 0 past its end.
 fn word(list: &[u64], at: usize) -> u64 {
-    if at < list.len() { list[at] } else { 0 }
+    list.get(at).copied().unwrap_or(0)
 }
 
-fn least(n: u64, most: usize) -> usize
-    ensures { result ≤ most }
-{
-    if n <= most as u64 { n as usize } else { most }
+// The number that a field's digits write, its low 64 bits; any other byte changes nothing.
+fn number(field: &[u8]) -> u64 {
+    field.iter().filter_map(|byte| digit(*byte, 10)).fold(
+        0,
+        |n: u64, d| n.wrapping_mul(10).wrapping_add(u64::from(d)),
+    )
 }
 
-fn wide(n: u8) -> u64 {
-    n as u64
-}
-
-// A number with one digit more; any other byte changes nothing.
-fn longer(n: u64, byte: u8) -> u64 {
-    match byte {
-        b'0'..=b'9' => {
-            let tenfold = (n << 3).wrapping_add(n << 1);
-            tenfold.wrapping_add(wide(byte - b'0'))
-        }
-        _ => n,
-    }
-}
-
-// 1 for the blank that begins a number.
-fn begins(byte: u8) -> usize
-    ensures { result ≤ 1 }
-{
-    if byte == b' ' { 1 } else { 0 }
-}
-
-// One byte more of the number that was begun last, if there was one and there is room for it.
-fn lengthen(list: &mut [u64], begun: usize, byte: u8)
-    ensures { length list.new ≡ length list.old }
-{
-    if begun == 0 {
-        return;
-    }
-    let at = begun - 1;
-    if at < list.len() {
-        list[at] = longer(list[at], byte);
-    }
-}
-
-// The numbers of a line, as far as there is room, and how many they are.
+// The numbers of a line, one for each blank, as far as there is room, and how many they are.
 fn numbers(line: &[u8], list: &mut [u64]) -> usize
     ensures { result ≤ length list.new }
 {
-    leaf_clear::clear_words(list);
-    let mut begun: usize = 0;
-    for byte in line {
-        begun += begins(*byte);
-        lengthen(list, begun, *byte);
+    let fields = line.split(|byte| *byte == b' ').skip(1);
+    for (n, field) in list.iter_mut().zip(fields) {
+        *n = number(field);
     }
-    least(begun as u64, list.len())
+    let blanks = line.iter().filter(|byte| **byte == b' ').count();
+    blanks.min(list.len())
 }
 
 // The bytes that a line gives in hex, and how many they are; none where they are bad or too many.
 fn bytes_of(line: &[u8], bytes: &mut [u8]) -> usize
-    ensures { (result ≤ length bytes.new) × (length bytes.new ≡ length bytes.old) }
+    ensures { result ≤ length bytes.new }
 {
     if line.len() < 3 {
         return 0;
@@ -85,327 +54,283 @@ fn bytes_of(line: &[u8], bytes: &mut [u8]) -> usize
     if bytes.len() < end / 2 {
         return 0;
     }
-    let read = text_numbers::unhex(&line[2..end], bytes, 0);
-    match read {
-        text_numbers::Hexed::Good(n) => least(n as u64, bytes.len()),
-        text_numbers::Hexed::Bad => 0,
-    }
-}
-
-fn print_hexed(list: &[u8], out: &mut impl Write) -> io::Result<()> {
-    let mut line = [0u8; 32768];
-    if 16384 < list.len() {
-        return Ok(());
-    }
-    let n = text_numbers::print_hex(list, &mut line, 0);
-    let m = least(n as u64, 32768);
-    out.write_all(&line[..m])
-}
-
-fn say(key: &[u8], n: u64, out: &mut impl Write) -> io::Result<()> {
-    out.write_all(key)?;
-    writeln!(out, "{n}")
+    let n = unhex(&line[2..end], bytes);
+    if 2 * n == end - 2 { n } else { 0 }
 }
 
 // What a call told that gives no value.
-fn tell(number: u32, out: &mut impl Write) -> io::Result<()> {
-    if number == 0 {
-        return out.write_all(b"ok\n");
-    }
-    say(b"refused=", number as u64, out)
-}
-
-fn tell_slot(number: u32, slot: u64, out: &mut impl Write) -> io::Result<()> {
-    if number != 0 {
-        return tell(number, out);
-    }
-    say(b"slot=", slot, out)
-}
-
-fn tell_truth(number: u32, truth: u64, out: &mut impl Write) -> io::Result<()> {
-    if number != 0 {
-        return tell(number, out);
-    }
-    if truth == 0 {
-        out.write_all(b"false\n")
-    } else {
-        out.write_all(b"true\n")
+fn tell(told: u32, out: &mut impl Write) -> io::Result<()> {
+    match told {
+        0 => writeln!(out, "ok"),
+        number => writeln!(out, "refused={number}"),
     }
 }
 
-fn tell_datum(number: u32, datum: &[u8], out: &mut impl Write) -> io::Result<()> {
-    if number != 0 {
-        return tell(number, out);
+fn tell_slot(told: u32, slot: u64, out: &mut impl Write) -> io::Result<()> {
+    match told {
+        0 => writeln!(out, "slot={slot}"),
+        _ => tell(told, out),
     }
-    out.write_all(b"datum=")?;
-    print_hexed(datum, out)?;
-    out.write_all(b"\n")
 }
 
-fn put(
-    words: &mut [u64],
-    map: &mut [u8],
-    bytes: &mut [u8],
-    elems: &mut [u64],
-    scratch: &mut [u64],
-    line: &[u8],
-    out: &mut impl Write,
-) -> io::Result<()> {
-    let mut datum = [0u8; 8192];
-    let n = bytes_of(line, &mut datum);
-    let mut slot = 0;
-    let k = c_doors::talvongre_put(words, map, bytes, elems, scratch, &datum[..n], &mut slot);
-    tell_slot(k, slot, out)
+fn tell_truth(told: u32, truth: u64, out: &mut impl Write) -> io::Result<()> {
+    match told {
+        0 => writeln!(out, "{}", truth != 0),
+        _ => tell(told, out),
+    }
 }
 
-// A read into an output of the length that is given, if there is so much room.
-fn read_into(
-    words: &[u64],
-    map: &[u8],
-    bytes: &[u8],
-    elems: &[u64],
-    scratch: &mut [u64],
-    datum: &mut [u8],
-    given: &[u64],
-    out: &mut impl Write,
-) -> io::Result<()> {
-    let room = least(word(given, 0), datum.len());
-    let kind = word(given, 1);
-    let a = word(given, 2);
-    let part = &mut datum[..room];
-    let mut size = 0;
-    let k = c_doors::talvongre_read(words, map, bytes, elems, scratch, part, kind, a, &mut size);
-    let n = least(size, datum.len());
-    tell_datum(k, &datum[..n], out)
+fn tell_datum(told: u32, datum: &[u8], out: &mut impl Write) -> io::Result<()> {
+    match told {
+        0 => writeln!(out, "datum={}", Hex(datum)),
+        _ => tell(told, out),
+    }
 }
 
-fn read(
-    words: &[u64],
-    map: &[u8],
-    bytes: &[u8],
-    elems: &[u64],
-    scratch: &mut [u64],
-    given: &[u64],
-    out: &mut impl Write,
-) -> io::Result<()> {
-    let mut datum = [0u8; 16384];
-    read_into(words, map, bytes, elems, scratch, &mut datum, given, out)
+// The lent lists.
+#[derive(Drop)]
+struct Lent {
+    words: [u64; 2088],
+    map: [u8; 65],
+    bytes: [u8; 8192],
+    elems: [u64; 12288],
+    scratch: [u64; 2176],
 }
 
-fn eqv(
-    words: &[u64],
-    map: &[u8],
-    bytes: &[u8],
-    elems: &[u64],
-    given: &[u64],
-    out: &mut impl Write,
-) -> io::Result<()> {
-    let mut truth = 0;
-    let k = c_doors::talvongre_eqv(
-        words,
-        map,
-        bytes,
-        elems,
-        word(given, 0),
-        word(given, 1),
-        word(given, 2),
-        word(given, 3),
-        &mut truth,
-    );
-    tell_truth(k, truth, out)
-}
-
-// The symbol table's entry that leads to a slot, if there is one.
-fn print_entry(
-    words: &[u64],
-    map: &[u8],
-    bytes: &[u8],
-    elems: &[u64],
-    slot: u64,
-    out: &mut impl Write,
-) -> io::Result<()> {
-    let entries = least(word(words, 3), 4096);
-    for i in 0..entries {
-        if word(words, 8 * i + 13) == slot {
-            let scope = word(words, 8 * i + 14);
-            write!(out, "entry={scope}:")?;
-            print_hexed(doors::text(words, map, bytes, elems, slot), out)?;
-            say(b":", slot, out)?;
+impl Lent {
+    fn lists(&self) -> Lists<'_>
+        ensures { lent_of result ≡ record { words = self.now.words; map = self.now.map; bytes = self.now.bytes; elems = self.now.elems } }
+    {
+        Lists {
+            words: &self.words,
+            map: &self.map,
+            bytes: &self.bytes,
+            elems: &self.elems,
         }
     }
-    Ok(())
-}
 
-fn print_entries(
-    words: &[u64],
-    map: &[u8],
-    bytes: &[u8],
-    elems: &[u64],
-    out: &mut impl Write,
-) -> io::Result<()> {
-    let capacity = least(word(words, 1), 4096);
-    for s in 0..capacity {
-        print_entry(words, map, bytes, elems, s as u64, out)?;
+    // "p HEX"
+    fn put(&mut self, line: &[u8], out: &mut impl Write) -> io::Result<()> {
+        let mut datum = [0u8; 8192];
+        let n = bytes_of(line, &mut datum);
+        let mut slot = 0;
+        let told = c_doors::talvongre_put(
+            &mut self.words,
+            &mut self.map,
+            &mut self.bytes,
+            &mut self.elems,
+            &mut self.scratch,
+            &datum[..n],
+            &mut slot,
+        );
+        tell_slot(told, slot, out)
     }
-    Ok(())
-}
 
-fn print_states(words: &[u64], map: &[u8], out: &mut impl Write) -> io::Result<()> {
-    let capacity = least(word(words, 1), 4096);
-    out.write_all(b"states=")?;
-    for s in 0..capacity {
-        let state = wide(leaf_map::get(map, s));
-        write!(out, "{state}")?;
+    // "r LENGTH KIND A": a read into an output of the length that is given, if there is so much room.
+    fn read(&mut self, length: u64, kind: u64, a: u64, out: &mut impl Write) -> io::Result<()> {
+        let mut datum = [0u8; 16384];
+        let room = length.min(16384) as usize;
+        let mut size = 0;
+        let told = c_doors::talvongre_read(
+            &self.words,
+            &self.map,
+            &self.bytes,
+            &self.elems,
+            &mut self.scratch,
+            &mut datum[..room],
+            kind,
+            a,
+            &mut size,
+        );
+        let n = size.min(16384) as usize;
+        tell_datum(told, &datum[..n], out)
     }
-    out.write_all(b"\n")
-}
 
-// The listing without roots, the symbol table by slot, and each slot's state.
-fn dump(
-    words: &[u64],
-    map: &[u8],
-    bytes: &[u8],
-    elems: &[u64],
-    out: &mut impl Write,
-) -> io::Result<()> {
-    if heap_sound::is_sound(words, map, bytes, elems) {
-        sheet_answer::print_heap(words, map, bytes, elems, out)?;
-        print_entries(words, map, bytes, elems, out)?;
-        print_states(words, map, out)
-    } else {
-        tell(20, out)
+    // "v KIND A KIND A"
+    fn eqv(&self, given: [u64; 4], out: &mut impl Write) -> io::Result<()> {
+        let [kind, a, kind2, a2] = given;
+        let mut truth = 0;
+        let told = c_doors::talvongre_eqv(
+            &self.words,
+            &self.map,
+            &self.bytes,
+            &self.elems,
+            kind,
+            a,
+            kind2,
+            a2,
+            &mut truth,
+        );
+        tell_truth(told, truth, out)
     }
-}
 
-// "q KIND A KIND A"
-fn equal(
-    words: &[u64],
-    map: &[u8],
-    bytes: &[u8],
-    elems: &[u64],
-    scratch: &mut [u64],
-    given: &[u64],
-    out: &mut impl Write,
-) -> io::Result<()> {
-    let mut truth = 0;
-    let k = c_doors::talvongre_equal(
-        words,
-        map,
-        bytes,
-        elems,
-        scratch,
-        word(given, 0),
-        word(given, 1),
-        word(given, 2),
-        word(given, 3),
-        &mut truth,
-    );
-    tell_truth(k, truth, out)
-}
-
-// The calls that ask, and a remark.
-fn ask(
-    words: &[u64],
-    map: &[u8],
-    bytes: &[u8],
-    elems: &[u64],
-    scratch: &mut [u64],
-    line: &[u8],
-    given: &[u64],
-    out: &mut impl Write,
-) -> io::Result<()>
-    requires { 1 ≤ length line.now }
-{
-    match line[0] {
-        b'r' => read(words, map, bytes, elems, scratch, given, out),
-        b'v' => eqv(words, map, bytes, elems, given, out),
-        b'q' => equal(words, map, bytes, elems, scratch, given, out),
-        b'd' => dump(words, map, bytes, elems, out),
-        b'#' => out.write_all(line),
-        _ => out.write_all(b"unknown\n"),
+    // "q KIND A KIND A"
+    fn equal(&mut self, given: [u64; 4], out: &mut impl Write) -> io::Result<()> {
+        let [kind, a, kind2, a2] = given;
+        let mut truth = 0;
+        let told = c_doors::talvongre_equal(
+            &self.words,
+            &self.map,
+            &self.bytes,
+            &self.elems,
+            &mut self.scratch,
+            kind,
+            a,
+            kind2,
+            a2,
+            &mut truth,
+        );
+        tell_truth(told, truth, out)
     }
-}
 
-// "w INDEX NUMBER": damage, or its repair; nothing past the lent words.
-fn write_word(words: &mut [u64], at: u64, number: u64) {
-    if at < words.len() as u64 {
-        words[at as usize] = number;
+    fn capacity(&self) -> usize
+        ensures { result ≤ 4096 }
+    {
+        self.words[1].min(4096) as usize
     }
-}
 
-// Answers one line; the calls that change the heap are here.
-fn step(
-    words: &mut [u64],
-    map: &mut [u8],
-    bytes: &mut [u8],
-    elems: &mut [u64],
-    scratch: &mut [u64],
-    line: &[u8],
-    given: &[u64],
-    out: &mut impl Write,
-) -> io::Result<()>
-    requires { 1 ≤ length line.now }
-{
-    let a = word(given, 0);
-    let b = word(given, 1);
-    let c = word(given, 2);
-    let d = word(given, 3);
-    match line[0] {
-        b's' => tell(c_doors::talvongre_setup(words, map, bytes, elems, a), out),
-        b'p' => put(words, map, bytes, elems, scratch, line, out),
-        b'c' => tell(
-            c_doors::talvongre_cell_store(words, map, bytes, elems, a, b, c, d),
-            out,
-        ),
-        b'e' => tell(
-            c_doors::talvongre_element_store(words, map, bytes, elems, a, b, c, d),
-            out,
-        ),
-        b'g' => tell(
-            c_doors::talvongre_collect(words, map, bytes, elems, scratch, given),
-            out,
-        ),
-        b'w' => {
-            write_word(words, a, b);
-            Ok(())
+    // The symbol table's entry that leads to a slot, if there is one.
+    fn print_entry(&self, slot: u64, out: &mut impl Write) -> io::Result<()> {
+        let entries = self.words[3].min(4096) as usize;
+        for i in 0..entries {
+            if word(&self.words, 8 * i + 13) == slot {
+                let scope = word(&self.words, 8 * i + 14);
+                let text = doors::text(&self.words, &self.map, &self.bytes, &self.elems, slot);
+                writeln!(out, "entry={scope}:{}:{slot}", Hex(text))?;
+            }
         }
-        _ => ask(words, map, bytes, elems, scratch, line, given, out),
+        Ok(())
     }
-}
 
-// How long the line is that the text begins with, with its end.
-fn line_length(text: &[u8]) -> usize
-    requires { 1 ≤ length text.now }
-    ensures { (1 ≤ result) × (result ≤ length text.now) }
-{
-    let mut n = 1;
-    while n < text.len() {
-        if text[n - 1] == b'\n' {
-            return n;
+    fn print_entries(&self, out: &mut impl Write) -> io::Result<()> {
+        for slot in 0..self.capacity() {
+            self.print_entry(slot as u64, out)?;
         }
-        n += 1;
+        Ok(())
     }
-    n
+
+    fn print_states(&self, out: &mut impl Write) -> io::Result<()> {
+        write!(out, "states=")?;
+        for slot in 0..self.capacity() {
+            write!(out, "{}", u8::from(leaf_map::get(&self.map, slot)))?;
+        }
+        writeln!(out)
+    }
+
+    // "d": the listing without roots, the symbol table by slot, and each slot's state.
+    fn dump(&self, out: &mut impl Write) -> io::Result<()> {
+        match heap_sound::checked(self.lists()) {
+            Ok(sound) => sheet_answer::print_heap(sound, out)?,
+            Err(unsound) => return tell(unsound.number(), out),
+        }
+        self.print_entries(out)?;
+        self.print_states(out)
+    }
+
+    // "s CHUNK"
+    fn setup(&mut self, chunk: u64) -> u32 {
+        c_doors::talvongre_setup(
+            &mut self.words,
+            &mut self.map,
+            &mut self.bytes,
+            &mut self.elems,
+            chunk,
+        )
+    }
+
+    // "c SLOT KIND A B"
+    fn cell_store(&mut self, given: [u64; 4]) -> u32 {
+        let [slot, kind, a, b] = given;
+        c_doors::talvongre_cell_store(
+            &mut self.words,
+            &self.map,
+            &self.bytes,
+            &self.elems,
+            slot,
+            kind,
+            a,
+            b,
+        )
+    }
+
+    // "e SLOT INDEX KIND A"
+    fn element_store(&mut self, given: [u64; 4]) -> u32 {
+        let [slot, k, kind, a] = given;
+        c_doors::talvongre_element_store(
+            &self.words,
+            &self.map,
+            &self.bytes,
+            &mut self.elems,
+            slot,
+            k,
+            kind,
+            a,
+        )
+    }
+
+    // "g ROOT ROOT .."
+    fn collect(&mut self, roots: &[u64]) -> u32 {
+        c_doors::talvongre_collect(
+            &mut self.words,
+            &mut self.map,
+            &mut self.bytes,
+            &mut self.elems,
+            &mut self.scratch,
+            roots,
+        )
+    }
+
+    // "w INDEX NUMBER": damage, or its repair; nothing past the lent words.
+    fn write_word(&mut self, at: u64, number: u64) {
+        if at < 2088 {
+            self.words[at as usize] = number;
+        }
+    }
+
+    // Answers one line.
+    fn answer(&mut self, line: &[u8], given: &[u64], out: &mut impl Write) -> io::Result<()>
+        requires { 1 ≤ length line.now }
+    {
+        let first = [
+            word(given, 0),
+            word(given, 1),
+            word(given, 2),
+            word(given, 3),
+        ];
+        // Kept: letters; an enum of commands is no plainer, since each letter is matched here and nowhere else.
+        match line[0] {
+            b's' => tell(self.setup(first[0]), out),
+            b'p' => self.put(line, out),
+            b'c' => tell(self.cell_store(first), out),
+            b'e' => tell(self.element_store(first), out),
+            b'g' => tell(self.collect(given), out),
+            b'w' => {
+                self.write_word(first[0], first[1]);
+                Ok(())
+            }
+            b'r' => self.read(first[0], first[1], first[2], out),
+            b'v' => self.eqv(first, out),
+            b'q' => self.equal(first, out),
+            b'd' => self.dump(out),
+            b'#' => out.write_all(line),
+            _ => writeln!(out, "unknown"),
+        }
+    }
 }
 
 // Answers one line after the other.
-fn run(
-    words: &mut [u64],
-    map: &mut [u8],
-    bytes: &mut [u8],
-    elems: &mut [u64],
-    scratch: &mut [u64],
-    given: &mut [u64],
-    text: &[u8],
-    out: &mut impl Write,
-) -> io::Result<()> {
-    let mut at = 0;
-    while at < text.len() {
-        let end = at + line_length(&text[at..]);
-        let line = &text[at..end];
-        let n = numbers(line, given);
-        step(words, map, bytes, elems, scratch, line, &given[..n], out)?;
-        at = end;
+fn run(input: &[u8], out: &mut impl Write) -> io::Result<()> {
+    let mut lent = Lent {
+        words: [0; 2088],
+        map: [0; 65],
+        bytes: [0; 8192],
+        elems: [0; 12288],
+        scratch: [0; 2176],
+    };
+    let mut given = [0u64; 256];
+    for line in input.split_inclusive(|byte| *byte == b'\n') {
+        let n = numbers(line, &mut given);
+        lent.answer(line, &given[..n], out)?;
     }
     Ok(())
 }
@@ -414,21 +339,6 @@ fn main(rt: HostRuntime) -> io::Result<()> {
     let mut space = [0u8; INPUT];
     let n = whole_input::read_full(&mut rt.reader(), &mut space)?;
     let mut out = io::writer(&rt);
-    let mut words = [0u64; 2088];
-    let mut map = [0u8; 65];
-    let mut bytes = [0u8; 8192];
-    let mut elems = [0u64; 12288];
-    let mut scratch = [0u64; 2176];
-    let mut given = [0u64; 256];
-    run(
-        &mut words,
-        &mut map,
-        &mut bytes,
-        &mut elems,
-        &mut scratch,
-        &mut given,
-        &space[..n],
-        &mut out,
-    )?;
+    run(&space[..n], &mut out)?;
     out.flush()
 }

@@ -5,38 +5,23 @@
 
 ghost use Rattle.std.specs.Prelude.{◌≡◌, ◌<◌, length};
 
+use leaf_map::State;
 use std::io;
 use std::io::Write;
+use stored_cases::{Spaced, digit};
 
 const WIDTH: usize = 4;
 
 // at most so many bytes are read
 const INPUT: usize = 4096;
 
-fn digit(byte: u8) -> u8 {
-    if b'0' <= byte && byte <= b'9' {
-        byte - b'0'
-    } else {
-        9
-    }
-}
-
-fn print(n: u64, out: &mut impl Write) -> io::Result<()> {
-    write!(out, "{n} ")
-}
-
-fn wide(n: u8) -> u64 {
-    n as u64
-}
-
 fn change(map: &mut [u8], slot: usize, state: u8)
     requires { length map.old ≡ 2 }
 {
     if slot < 8 && state < 4 {
-        if state == leaf_map::USED {
-            leaf_map::mark(map, slot);
-        } else {
-            leaf_map::set(map, slot, state);
+        match State::of_bits(state) {
+            State::Used => leaf_map::mark(map, slot),
+            other => leaf_map::set(map, slot, other),
         }
     }
 }
@@ -44,25 +29,25 @@ fn change(map: &mut [u8], slot: usize, state: u8)
 fn answer(map: &[u8], slot: usize, out: &mut impl Write) -> io::Result<()>
     requires { length map.now ≡ 2 }
 {
-    print(wide(map[0]), out)?;
-    print(wide(map[1]), out)?;
+    write!(out, "{}", Spaced(map))?;
     for s in 0..8 {
-        print(wide(leaf_map::get(map, s)), out)?;
+        write!(out, "{} ", u8::from(leaf_map::get(map, s)))?;
     }
-    print(leaf_map::used(map) as u64, out)?;
-    if leaf_map::is_marked(map, slot) {
-        out.write_all(b"1\n")
-    } else {
-        out.write_all(b"0\n")
-    }
+    writeln!(
+        out,
+        "{} {}",
+        leaf_map::used(map),
+        u8::from(leaf_map::is_marked(map, slot))
+    )
 }
 
+// A byte that is no digit stands for no slot and no state.
 fn run(map: &mut [u8], input: &[u8], out: &mut impl Write) -> io::Result<()>
     requires { length map.old ≡ 2 }
 {
     for case in input.chunks_exact(WIDTH) {
-        let slot = digit(case[0]) as usize;
-        change(map, slot, digit(case[2]));
+        let slot = usize::from(digit(case[0], 10).unwrap_or(9));
+        change(map, slot, digit(case[2], 10).unwrap_or(9));
         answer(map, slot, out)?;
     }
     Ok(())

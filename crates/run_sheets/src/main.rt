@@ -3,65 +3,32 @@
 // from (the original Rust, or document 01 for refusals), is in tools/sheet_cases.py.
 #![tactic(auto)]
 
-ghost use Rattle.std.specs.Prelude.{◌≤◌, length};
-
 use std::io;
 use std::io::{ErrorKind, Read, Write};
-
-// A digit's number; 0 for any other byte.
-fn digit(byte: u8) -> usize
-    ensures { result ≤ 9 }
-{
-    match byte {
-        b'0'..=b'9' => (byte - b'0') as usize,
-        _ => 0,
-    }
-}
-
-// The length that the line before a sheet says.
-fn length_of(line: &[u8]) -> usize
-    requires { 5 ≤ length line.now }
-    ensures { result ≤ 99999 }
-{
-    let high = digit(line[0]) * 100 + digit(line[1]) * 10 + digit(line[2]);
-    let low = digit(line[3]) * 10 + digit(line[4]);
-    high * 100 + low
-}
+use stored_cases::number;
 
 // Fills the room; false where the input ends before.
 fn fill(input: &mut impl Read, room: &mut [u8]) -> io::Result<bool> {
     match input.read_exact(room) {
         Ok(()) => Ok(true),
-        Err(e) => {
-            if e.kind() == ErrorKind::UnexpectedEof {
-                return Ok(false);
-            }
-            Err(e)
-        }
+        Err(e) if e.kind() == ErrorKind::UnexpectedEof => Ok(false),
+        Err(e) => Err(e),
     }
 }
 
-// The answer to a sheet that takes all of this room; false where the input ends before.
-fn answer(input: &mut impl Read, room: &mut [u8], out: &mut impl Write) -> io::Result<bool> {
-    if !fill(input, room)? {
-        return Ok(false);
-    }
-    sheet_answer::answer(room, out)?;
-    out.write_all(b"---\n")?;
-    Ok(true)
-}
-
-// The next sheet's answer; false where there is none.
+// The next sheet's answer; false where there is none, or its length is past the room.
 fn next(input: &mut impl Read, space: &mut [u8], out: &mut impl Write) -> io::Result<bool> {
     let mut line = [0u8; 6];
     if !fill(input, &mut line)? {
         return Ok(false);
     }
-    let size = length_of(&line);
-    if space.len() < size {
+    let size = number(&line[..5], 10) as usize;
+    if space.len() < size || !fill(input, &mut space[..size])? {
         return Ok(false);
     }
-    answer(input, &mut space[..size], out)
+    sheet_answer::answer(&mut space[..size], out)?;
+    writeln!(out, "---")?;
+    Ok(true)
 }
 
 fn main(rt: HostRuntime) -> io::Result<()> {
@@ -70,7 +37,7 @@ fn main(rt: HostRuntime) -> io::Result<()> {
     let mut space = [0u8; 65536];
     for _ in 0..100000u32 {
         if !next(&mut input, &mut space, &mut out)? {
-            return out.flush();
+            break;
         }
     }
     out.flush()

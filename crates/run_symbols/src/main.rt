@@ -6,8 +6,11 @@
 ghost use Rattle.std.specs.Prelude.{true, ◌≡◌, ◌≤◌, length};
 ghost use Rattle.leaf_symbols.specs.Table.{bytes_used, Tabled};
 
+use leaf_cells::VCell;
+use leaf_map::State;
 use std::io;
 use std::io::Write;
+use stored_cases::{Spaced, number};
 
 // at most so many bytes are read
 const INPUT: usize = 65536;
@@ -21,33 +24,40 @@ const WORDS: usize = 72;
 
 const BYTES: usize = 64;
 
-fn digit(byte: u8) -> u64 {
-    if b'0' <= byte && byte <= b'9' {
-        (byte - b'0') as u64
-    } else if b'a' <= byte && byte <= b'f' {
-        (byte - b'a') as u64 + 10
-    } else {
-        0
+// A case's fields; the text's digits are a size too. There is no name where it is longer than the text.
+#[derive(Clone, Copy)]
+struct Case<'a> {
+    op: u8,
+    slot: usize,
+    n: u64,
+    kind: u64,
+    text: &'a [u8],
+    name: Option<&'a [u8]>,
+}
+
+impl Case<'_> {
+    fn of(line: &[u8]) -> Case<'_>
+        requires { length line.now ≡ 33 }
+    {
+        let kind = number(&line[22..23], 16);
+        let text = &line[24..32];
+        Case {
+            op: line[0],
+            slot: number(&line[2..4], 16) as usize,
+            n: number(&line[5..21], 16),
+            kind,
+            text,
+            name: text.get(..kind as usize),
+        }
     }
 }
 
-fn number(digits: &[u8]) -> u64 {
-    let mut n: u64 = 0;
-    for d in digits {
-        n = (n << 4) | digit(*d);
-    }
-    n
-}
-
-fn print(n: u64, out: &mut impl Write) -> io::Result<()> {
-    write!(out, "{n} ")
-}
-
-fn print_words(list: &[u64], out: &mut impl Write) -> io::Result<()> {
-    for n in list {
-        print(*n, out)?;
-    }
-    Ok(())
+// The lists that the cases change.
+#[derive(Drop)]
+struct Heap {
+    words: [u64; WORDS],
+    map: [u8; 2],
+    bytes: [u8; BYTES],
 }
 
 // The table, its entries' slots and the bytes in use are within the rooms.
@@ -55,14 +65,10 @@ fn fits(words: &[u64]) -> bool
     requires { length words.now ≡ 72 }
     ensures { result ≡ true → Tabled words.now × (bytes_used words.now ≤ 64) }
 {
-    if words[3] > 8 {
+    if words[3] > 8 || words[4] > 64 {
         return false;
     }
-    if words[4] > 64 {
-        return false;
-    }
-    let count = words[3] as usize;
-    for i in 0..count {
+    for i in 0..words[3] as usize {
         if words[8 + 8 * i + 5] >= 8 {
             return false;
         }
@@ -70,161 +76,94 @@ fn fits(words: &[u64]) -> bool
     true
 }
 
-fn find(
-    words: &[u64],
-    bytes: &[u8],
-    name: &[u8],
-    scope: u64,
-    out: &mut impl Write,
-) -> io::Result<()>
-    requires { (length words.now ≡ 72) × (length bytes.now ≡ 64) }
-{
-    if fits(words) {
-        match leaf_find::find(words, bytes, name, scope) {
-            leaf_find::Found::At(slot) => print(slot as u64, out)?,
-            leaf_find::Found::Missing => out.write_all(b"missing ")?,
+impl Heap {
+    fn find(&self, name: &[u8], scope: u64, out: &mut impl Write) -> io::Result<()> {
+        if fits(&self.words) {
+            match leaf_find::find(&self.words, &self.bytes, name, scope) {
+                Some(slot) => write!(out, "{slot} ")?,
+                None => write!(out, "missing ")?,
+            }
+        }
+        Ok(())
+    }
+
+    fn name_is(&self, slot: usize, name: &[u8], out: &mut impl Write) -> io::Result<()> {
+        if slot < SLOTS && self.words[4] <= 64 {
+            let is = leaf_find::name_is(&self.words, &self.bytes, slot, name);
+            write!(out, "{} ", u8::from(is))?;
+        }
+        Ok(())
+    }
+
+    fn store(&mut self, slot: usize, cell: VCell) {
+        if slot < SLOTS {
+            leaf_cells::store(&mut self.words, slot, cell);
         }
     }
-    Ok(())
-}
 
-fn name_is(
-    words: &[u64],
-    bytes: &[u8],
-    slot: usize,
-    name: &[u8],
-    out: &mut impl Write,
-) -> io::Result<()>
-    requires { (length words.now ≡ 72) × (length bytes.now ≡ 64) }
-{
-    if slot < SLOTS {
-        if words[4] <= 64 {
-            print(leaf_find::name_is(words, bytes, slot, name) as u64, out)?;
+    fn set_state(&mut self, slot: usize, state: State) {
+        if slot < SLOTS {
+            leaf_map::set(&mut self.map, slot, state);
         }
     }
-    Ok(())
-}
 
-fn store(words: &mut [u64], slot: usize, cell: leaf_cells::VCell)
-    requires { length words.old ≡ 72 }
-{
-    if slot < SLOTS {
-        leaf_cells::store(words, slot, cell);
-    }
-}
-
-fn set_state(map: &mut [u8], slot: usize, state: u8)
-    requires { length map.old ≡ 2 }
-{
-    if slot < SLOTS && state < 4 {
-        leaf_map::set(map, slot, state);
-    }
-}
-
-// A symbol of this name in the slot.
-fn name_slot(words: &mut [u64], bytes: &mut [u8], slot: usize, name: &[u8])
-    requires { (length words.old ≡ 72) × (length bytes.old ≡ 64) }
-{
-    let used = words[4] as usize;
-    if used <= BYTES {
-        if name.len() <= BYTES - used {
-            let place = leaf_rooms::append_text(words, bytes, name);
-            store(words, slot, leaf_cells::VCell::Symbol(place, name.len()));
+    // A symbol of this name in the slot.
+    fn name_slot(&mut self, slot: usize, name: &[u8]) {
+        let used = self.words[4] as usize;
+        if used <= BYTES && name.len() <= BYTES - used {
+            let place = leaf_rooms::append_text(&mut self.words, &mut self.bytes, name);
+            self.store(slot, VCell::Symbol(place, name.len()));
         }
     }
-}
 
-fn add(words: &mut [u64], slot: usize, scope: u64)
-    requires { length words.old ≡ 72 }
-{
-    if words[3] < 8 {
-        leaf_symbols::add(words, slot, scope);
+    fn add(&mut self, slot: usize, scope: u64) {
+        if self.words[3] < 8 {
+            leaf_symbols::add(&mut self.words, slot, scope);
+        }
+    }
+
+    fn drop_freed(&mut self) {
+        if self.words[3] <= 8 {
+            leaf_symbols::drop_freed(&mut self.words, &self.map);
+        }
+    }
+
+    fn run(&mut self, case: Case<'_>, out: &mut impl Write) -> io::Result<()> {
+        // Kept: letters; an enum of commands is no plainer, since each letter is matched here and nowhere else.
+        match (case.op, case.name) {
+            (b'a', name) => {
+                if let Some(name) = name {
+                    self.name_slot(case.slot, name);
+                }
+                self.set_state(case.slot, State::Allocated);
+                self.add(case.slot, case.n);
+            }
+            (b'x', _) => {
+                self.set_state(case.slot, State::Free);
+                self.store(case.slot, VCell::Undefined);
+            }
+            (b'c', _) => {
+                let cell = leaf_cells::cell_from(case.kind, case.n, number(case.text, 16));
+                self.store(case.slot, cell);
+            }
+            (b'd', _) => self.drop_freed(),
+            (b'u', _) => self.words[4] = case.n,
+            (b'f', Some(name)) => self.find(name, case.n, out)?,
+            (b'n', Some(name)) => self.name_is(case.slot, name, out)?,
+            _ => {}
+        }
+        writeln!(out, "| {}", Spaced(&self.words))
     }
 }
 
-fn drop_freed(words: &mut [u64], map: &[u8])
-    requires { length words.old ≡ 72 }
-{
-    if words[3] <= 8 {
-        leaf_symbols::drop_freed(words, map);
-    }
-}
-
-fn ask(words: &[u64], bytes: &[u8], line: &[u8], out: &mut impl Write) -> io::Result<()>
-    requires { (length words.now ≡ 72) × (length bytes.now ≡ 64) × (length line.now ≡ 33) }
-{
-    let size = number(&line[22..23]) as usize;
-    if size <= 8 {
-        let end = 24 + size;
-        if line[0] == b'f' {
-            find(words, bytes, &line[24..end], number(&line[5..21]), out)?;
-        }
-        if line[0] == b'n' {
-            name_is(
-                words,
-                bytes,
-                number(&line[2..4]) as usize,
-                &line[24..end],
-                out,
-            )?;
-        }
-    }
-    Ok(())
-}
-
-fn change(words: &mut [u64], map: &mut [u8], line: &[u8])
-    requires { (length words.old ≡ 72) × (length map.old ≡ 2) × (length line.now ≡ 33) }
-{
-    let slot = number(&line[2..4]) as usize;
-    let n = number(&line[5..21]);
-    match line[0] {
-        b'a' => {
-            set_state(map, slot, leaf_map::ALLOCATED);
-            add(words, slot, n);
-        }
-        b'x' => {
-            set_state(map, slot, leaf_map::FREE);
-            store(words, slot, leaf_cells::VCell::Undefined);
-        }
-        b'c' => store(
-            words,
-            slot,
-            leaf_cells::cell_from(number(&line[22..23]), n, number(&line[24..32])),
-        ),
-        b'd' => drop_freed(words, map),
-        b'u' => words[4] = n,
-        _ => {}
-    }
-}
-
-fn name(words: &mut [u64], bytes: &mut [u8], line: &[u8])
-    requires { (length words.old ≡ 72) × (length bytes.old ≡ 64) × (length line.now ≡ 33) }
-{
-    let size = number(&line[22..23]) as usize;
-    if size <= 8 {
-        if line[0] == b'a' {
-            let end = 24 + size;
-            name_slot(words, bytes, number(&line[2..4]) as usize, &line[24..end]);
-        }
-    }
-}
-
-fn run(
-    words: &mut [u64],
-    map: &mut [u8],
-    bytes: &mut [u8],
-    input: &[u8],
-    out: &mut impl Write,
-) -> io::Result<()>
-    requires { (length words.old ≡ 72) × (length map.old ≡ 2) × (length bytes.old ≡ 64) }
-{
+fn run(input: &[u8], out: &mut impl Write) -> io::Result<()> {
+    let mut heap = Heap {
+        words: [0; WORDS],
+        map: [0; 2],
+        bytes: [0; BYTES],
+    };
     for line in input.chunks_exact(WIDTH) {
-        name(words, bytes, line);
-        change(words, map, line);
-        ask(words, bytes, line, out)?;
-        out.write_all(b"| ")?;
-        print_words(words, out)?;
-        out.write_all(b"\n")?;
+        heap.run(Case::of(line), out)?;
     }
     Ok(())
 }
@@ -233,9 +172,6 @@ fn main(rt: HostRuntime) -> io::Result<()> {
     let mut space = [0u8; INPUT];
     let n = whole_input::read_full(&mut rt.reader(), &mut space)?;
     let mut out = io::writer(&rt);
-    let mut words = [0u64; WORDS];
-    let mut map = [0u8; 2];
-    let mut bytes = [0u8; BYTES];
-    run(&mut words, &mut map, &mut bytes, &space[..n], &mut out)?;
+    run(&space[..n], &mut out)?;
     out.flush()
 }

@@ -6,34 +6,32 @@
 
 ghost use Rattle.std.specs.Prelude.{◌+◌, ◌*◌, ◌≤◌, length};
 
+use sheet_nodes::Node;
 use std::io;
 use std::io::Write;
 
 // at most so many bytes are read
 const INPUT: usize = 32768;
 
-fn say_unsigned(n: text_decimals::Number, text: &mut [u8], out: &mut impl Write) -> io::Result<()>
+fn say_unsigned(n: Option<u64>, text: &mut [u8], out: &mut impl Write) -> io::Result<()>
     requires { 20 ≤ length text.old }
 {
-    match n {
-        text_decimals::Number::Bad => out.write_all(b"bad"),
-        text_decimals::Number::Good(m) => {
-            let end = text_numbers::print_decimal(m, text, 0);
-            out.write_all(&text[..end])
-        }
-    }
+    let Some(n) = n else {
+        return write!(out, "bad");
+    };
+    let end = text_numbers::print_decimal(n, text, 0);
+    out.write_all(&text[..end])
 }
 
-fn say_signed(n: text_decimals::Number, text: &mut [u8], out: &mut impl Write) -> io::Result<()>
+// Kept: say_unsigned and say_signed; with the printing call as a parameter, its requires and its room stand in the contract, no plainer.
+fn say_signed(n: Option<u64>, text: &mut [u8], out: &mut impl Write) -> io::Result<()>
     requires { 20 ≤ length text.old }
 {
-    match n {
-        text_decimals::Number::Bad => out.write_all(b"bad"),
-        text_decimals::Number::Good(m) => {
-            let end = text_numbers::print_signed(m, text, 0);
-            out.write_all(&text[..end])
-        }
-    }
+    let Some(n) = n else {
+        return write!(out, "bad");
+    };
+    let end = text_numbers::print_signed(n, text, 0);
+    out.write_all(&text[..end])
 }
 
 // Bytes in hex.
@@ -48,44 +46,32 @@ fn say_hex(line: &[u8], room: &mut [u8], text: &mut [u8], out: &mut impl Write) 
     requires line_in_bounds { length line.now ≤ length room.old }
     requires room_in_bounds { 2 * length room.old ≤ length text.old }
 {
-    let h = text_numbers::unhex(line, room, 0);
-    match h {
-        text_numbers::Hexed::Bad => out.write_all(b"bad"),
-        text_numbers::Hexed::Good(n) => say_bytes(&room[..n], text, out),
-    }
+    let Some(n) = text_numbers::unhex(line, room, 0) else {
+        return write!(out, "bad");
+    };
+    say_bytes(&room[..n], text, out)
 }
 
 fn say_node(line: &[u8], room: &mut [u8], text: &mut [u8], out: &mut impl Write) -> io::Result<()>
     requires line_in_bounds { 9 + length line.now ≤ length room.old }
     requires room_in_bounds { 2 * length room.old ≤ length text.old }
 {
-    let l = sheet_lines::node_line(line, room, 0);
-    match l {
-        sheet_nodes::NodeLine::Bad => out.write_all(b"bad"),
-        sheet_nodes::NodeLine::Good(size, follow) => {
-            say_bytes(&room[..size], text, out)?;
-            write!(out, ",{follow}")
-        }
-    }
-}
-
-fn say_end(yes: bool, out: &mut impl Write) -> io::Result<()> {
-    if yes {
-        out.write_all(b" end=1")
-    } else {
-        out.write_all(b" end=0")
-    }
+    let Some(Node { size, follow }) = sheet_lines::node_line(line, room, 0) else {
+        return write!(out, "bad");
+    };
+    say_bytes(&room[..size], text, out)?;
+    write!(out, ",{follow}")
 }
 
 // The numbers that a line may be.
 fn say_numbers(line: &[u8], text: &mut [u8], out: &mut impl Write) -> io::Result<()>
     requires { 20 ≤ length text.old }
 {
-    out.write_all(b"unsigned=")?;
+    write!(out, "unsigned=")?;
     say_unsigned(text_decimals::unsigned32(line), text, out)?;
-    out.write_all(b" signed=")?;
+    write!(out, " signed=")?;
     say_signed(text_decimals::signed64(line), text, out)?;
-    out.write_all(b" chunk=")?;
+    write!(out, " chunk=")?;
     say_unsigned(sheet_keys::header_line(b"chunk=", line), text, out)
 }
 
@@ -95,12 +81,11 @@ fn answer(line: &[u8], room: &mut [u8], text: &mut [u8], out: &mut impl Write) -
     requires in_bounds { 20 ≤ length text.old }
 {
     say_numbers(line, text, out)?;
-    say_end(sheet_keys::is_end(line), out)?;
-    out.write_all(b" hex=")?;
+    write!(out, " end={} hex=", u8::from(sheet_keys::is_end(line)))?;
     say_hex(line, room, text, out)?;
-    out.write_all(b" node=")?;
+    write!(out, " node=")?;
     say_node(line, room, text, out)?;
-    out.write_all(b"\n")
+    writeln!(out)
 }
 
 // Answers one line after the other.
@@ -110,15 +95,9 @@ fn run(lines: &[u8], room: &mut [u8], text: &mut [u8], out: &mut impl Write) -> 
     requires in_bounds { 20 ≤ length text.old }
 {
     let mut at = 0;
-    while at < lines.len() {
-        let e = sheet_keys::line_end(lines, at);
-        match e {
-            sheet_keys::Found::None => return Ok(()),
-            sheet_keys::Found::At(end) => {
-                answer(&lines[at..end], room, text, out)?;
-                at = end + 1;
-            }
-        }
+    while let Some(end) = sheet_keys::line_end(lines, at) {
+        answer(&lines[at..end], room, text, out)?;
+        at = end + 1;
     }
     Ok(())
 }

@@ -3,77 +3,24 @@
 // are, and their answers, is made by tools/leaf_cases.py.
 #![tactic(auto)]
 
-ghost use Rattle.std.specs.Prelude.{◌+◌, ◌*◌, ◌<◌, ◌≤◌, length};
+ghost use Rattle.std.specs.Prelude.{◌*◌, ◌≤◌, length};
 
 use std::io;
 use std::io::Write;
+use stored_cases::unhex;
 
 // at most so many bytes are read
 const INPUT: usize = 65536;
-
-// A digit of lower-case hex; 16 for any other byte.
-fn digit(byte: u8) -> u8
-    ensures { result ≤ 16 }
-{
-    match byte {
-        b'0'..=b'9' => byte - b'0',
-        b'a'..=b'f' => byte - b'a' + 10,
-        _ => 16,
-    }
-}
-
-// The bytes that the text begins with, in hex, and how many they are.
-fn unhex(text: &[u8], bytes: &mut [u8]) -> usize
-    ensures { (result ≤ length bytes.new) × (2 * result ≤ length text.now) }
-{
-    let mut n = 0;
-    while n < bytes.len() {
-        if text.len() - 2 * n < 2 {
-            return n;
-        }
-        let high = digit(text[2 * n]);
-        let low = digit(text[2 * n + 1]);
-        if high == 16 {
-            return n;
-        }
-        if low == 16 {
-            return n;
-        }
-        bytes[n] = high * 16 + low;
-        n += 1;
-    }
-    n
-}
-
-fn wide(n: u8) -> u64
-    ensures { result < 256 }
-{
-    n as u64
-}
-
-// The number that four bytes are, highest first.
-fn number(bytes: &[u8]) -> u64
-    requires { 4 ≤ length bytes.now }
-{
-    ((wide(bytes[0]) * 256 + wide(bytes[1])) * 256 + wide(bytes[2])) * 256 + wide(bytes[3])
-}
-
-fn say(yes: bool, out: &mut impl Write) -> io::Result<()> {
-    if yes {
-        out.write_all(b"1\n")
-    } else {
-        out.write_all(b"0\n")
-    }
-}
 
 // The answer to the case that the text begins with, and how many bytes of it that was.
 fn answer(text: &[u8], bytes: &mut [u8]) -> (bool, usize)
     requires { 4 ≤ length bytes.old }
     ensures { result.1 ≤ length text.now }
 {
-    if 0 < text.len() && text[0] == b'u' {
-        let n = unhex(&text[1..], bytes);
-        (leaf_utf8::is_scalar_value(number(bytes)), 1 + 2 * n)
+    if let Some(code_point) = text.strip_prefix(b"u") {
+        let n = unhex(code_point, bytes);
+        let number = u32::from_be_bytes([bytes[0], bytes[1], bytes[2], bytes[3]]);
+        (leaf_utf8::is_scalar_value(u64::from(number)), 1 + 2 * n)
     } else {
         let n = unhex(text, bytes);
         (leaf_utf8::is_utf8(&bytes[..n]), 2 * n)
@@ -84,16 +31,14 @@ fn answer(text: &[u8], bytes: &mut [u8]) -> (bool, usize)
 fn run(text: &[u8], bytes: &mut [u8], out: &mut impl Write) -> io::Result<()>
     requires { 4 ≤ length bytes.old }
 {
-    let mut at = 0;
-    while at < text.len() {
-        let (yes, n) = answer(&text[at..], bytes);
-        say(yes, out)?;
-        at += n;
-        if at < text.len() {
-            at += 1;
-        } else {
+    let mut rest = text;
+    while !rest.is_empty() {
+        let (yes, n) = answer(rest, bytes);
+        writeln!(out, "{}", u8::from(yes))?;
+        let Some((_, after)) = rest[n..].split_first() else {
             return Ok(());
-        }
+        };
+        rest = after;
     }
     Ok(())
 }

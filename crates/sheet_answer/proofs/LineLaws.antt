@@ -1,5 +1,5 @@
 -- What printing needs to know: a line and a heap lie within what was lent. Assumes nothing.
-use mathlib.Core.Path.{◌≡◌, sym, subst}
+use mathlib.Core.Path.{◌≡◌, sym}
 use mathlib.Core.Bool.{true}
 use mathlib.Core.List.{List}
 use Prim.Native.Nat.{ℕ, ◌+◌, ◌*◌, ◌/◌, ◌≤◌}
@@ -10,8 +10,8 @@ use Rattle.laws.specs.Basics.{zeros}
 use Rattle.rules.specs.Layout.{map_bytes}
 use Rattle.rules.specs.Sound.{sound}
 use Rattle.heap_sound_rows.specs.Rows.{lists}
-use Rattle.sheet_run.specs.declared.Ran.{Ran}
-use Rattle.sheet_run.specs.declared.Ran.TheVariants as ran
+use Rattle.std.specs.Prelude.{Ok}
+use Rattle.sheet_run.specs.declared.Listed.{Listed}
 use Rattle.sheet_run.specs.Running.{RoomsLent, ran_so, RanSo}
 
 -- a part has the length that was asked for
@@ -24,11 +24,9 @@ pub record Left (words map bytes elems roots : List ℕ) (slots count : ℕ) : T
   pub few : slots ≤ 192
   pub room : count ≤ length roots
 
-pub left_by : (text words map bytes elems roots : List ℕ) (r : Ran) (slots count : ℕ) → RanSo text words map bytes elems roots r → r ≡ ran.Listed slots count → Left words map bytes elems roots slots count
+pub left_by : (text words map bytes elems roots : List ℕ) (l : Listed) → RanSo text words map bytes elems roots (Ok l) → Left words map bytes elems roots l.slots l.count
 unfolding ran_so map_bytes
-left_by text words map bytes elems roots r slots count s e =
-    let g = subst (ran_so text words map bytes elems roots) e s.is in
-    record { whole = g.1; few = g.2; room = g.3 }
+left_by text words map bytes elems roots l s = let g = s.is in record { whole = g.1; few = g.2; room = g.3 }
 
 -- the room of the program's arrays
 pub lent_room : (words map bytes elems scratch nodes ends roots : List ℕ) → length words ≡ 1544 → length map ≡ 48 → length bytes ≡ 8192 → length elems ≡ 6144 → scratch ≡ zeros 1664 → length nodes ≡ 65545 → length ends ≡ 6554 → length roots ≡ 6554 → RoomsLent words map bytes elems scratch nodes ends roots

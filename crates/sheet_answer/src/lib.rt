@@ -4,11 +4,11 @@
 // `sheet_listing`'s. A listing can be long, so it is written line by line, to a writer that is lent.
 #![tactic(auto)]
 
-ghost use Rattle.std.specs.Prelude.{true, ◌≡◌, ◌≤◌, length, get_or};
-ghost use Rattle.rules.specs.Sound.{sound};
-ghost use Rattle.heap_sound_rows.specs.Rows.{lists};
+ghost use Rattle.std.specs.Prelude.{◌≤◌, length};
 ghost use Rattle.sheet_run.specs.Running.{RoomsLent};
 
+use heap_sound::Sound;
+use leaf_lists::Lists;
 use std::io;
 use std::io::Write;
 
@@ -31,40 +31,24 @@ fn say_roots(roots: &[u64], line: &mut [u8], out: &mut impl Write) -> io::Result
 }
 
 // `capacity`, `free` and `freelist`.
-fn say_counts(
-    words: &[u64],
-    map: &[u8],
-    bytes: &[u8],
-    elems: &[u64],
-    line: &mut [u8],
-    out: &mut impl Write,
-) -> io::Result<()>
-    requires elems_value { sound (lists words.now map.now bytes.now elems.now) ≡ true }
-    requires in_bounds { 32768 ≤ length line.old }
+fn say_counts(heap: Sound<'_>, line: &mut [u8], out: &mut impl Write) -> io::Result<()>
+    requires { 32768 ≤ length line.old }
 {
-    let c = sheet_print::capacity_line(words, line);
+    let c = sheet_print::capacity_line(heap.lists.words, line);
     say(line, c, out)?;
-    let f = sheet_print::free_line(words, line);
+    let f = sheet_print::free_line(heap.lists.words, line);
     say(line, f, out)?;
-    let l = sheet_print::freelist_line(words, line);
+    let l = sheet_print::freelist_line(heap.lists.words, line);
     say(line, l, out)
 }
 
 // A line for each slot below the capacity.
-fn say_slots(
-    words: &[u64],
-    map: &[u8],
-    bytes: &[u8],
-    elems: &[u64],
-    line: &mut [u8],
-    out: &mut impl Write,
-) -> io::Result<()>
-    requires elems_value { sound (lists words.now map.now bytes.now elems.now) ≡ true }
-    requires in_bounds { 32768 ≤ length line.old }
+fn say_slots(heap: Sound<'_>, line: &mut [u8], out: &mut impl Write) -> io::Result<()>
+    requires { 32768 ≤ length line.old }
 {
-    let capacity = words[1] as usize;
+    let capacity = heap.lists.words[1] as usize;
     for s in 0..capacity {
-        let n = sheet_listing::slot_line(words, map, bytes, elems, s, line);
+        let n = sheet_listing::slot_line(heap, s, line);
         say(line, n, out)?;
     }
     Ok(())
@@ -80,35 +64,23 @@ fn say_refused(number: u64, line: &mut [u8], out: &mut impl Write) -> io::Result
 
 // A heap's own lines of the listing: its counts, and its slots. The only error is the writer's own; it leaves the heap as it
 // was, and the lines before it were handed to the writer.
-pub fn print_heap(
-    words: &[u64],
-    map: &[u8],
-    bytes: &[u8],
-    elems: &[u64],
-    out: &mut impl Write,
-) -> io::Result<()>
-    requires { sound (lists words.now map.now bytes.now elems.now) ≡ true }
-{
+pub fn print_heap(heap: Sound<'_>, out: &mut impl Write) -> io::Result<()> {
     let mut line = [0u8; 32768];
-    say_counts(words, map, bytes, elems, &mut line, out)?;
-    say_slots(words, map, bytes, elems, &mut line, out)
+    say_counts(heap, &mut line, out)?;
+    say_slots(heap, &mut line, out)
 }
 
 // The whole listing.
 fn say_listing(
-    words: &[u64],
-    map: &[u8],
-    bytes: &[u8],
-    elems: &[u64],
+    heap: Sound<'_>,
     roots: &[u64],
     line: &mut [u8],
     out: &mut impl Write,
 ) -> io::Result<()>
-    requires elems_value { sound (lists words.now map.now bytes.now elems.now) ≡ true }
-    requires in_bounds { 32768 ≤ length line.old }
+    requires { 32768 ≤ length line.old }
 {
     say_roots(roots, line, out)?;
-    print_heap(words, map, bytes, elems, out)
+    print_heap(heap, out)
 }
 
 // The answer, with the room that it takes.
@@ -128,21 +100,18 @@ fn answer_in(
     requires rooms_lent { RoomsLent words.old map.old bytes.old elems.old scratch.old nodes.old ends.old roots.old }
     requires in_bounds { 32768 ≤ length line.old }
 {
-    let r = sheet_run::run(text, words, map, bytes, elems, scratch, nodes, ends, roots);
-    match r {
-        sheet_run::Ran::Refused(n) => say_refused(n, line, out),
-        sheet_run::Ran::Listed(slots, count) => {
-            let rows = 8 + 8 * slots;
-            let states = (slots + 3) / 4;
-            say_listing(
-                &words[..rows],
-                &map[..states],
+    match sheet_run::run(text, words, map, bytes, elems, scratch, nodes, ends, roots) {
+        Err(refused) => say_refused(refused.number(), line, out),
+        Ok(listed) => {
+            let rows = 8 + 8 * listed.slots;
+            let states = (listed.slots + 3) / 4;
+            let lists = Lists {
+                words: &words[..rows],
+                map: &map[..states],
                 bytes,
                 elems,
-                &roots[..count],
-                line,
-                out,
-            )
+            };
+            say_listing(Sound { lists }, &roots[..listed.count], line, out)
         }
     }
 }

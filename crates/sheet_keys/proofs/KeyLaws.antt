@@ -1,10 +1,9 @@
 -- Places in a text, keys, and the lines that are a key and a number. Assumes nothing.
 use mathlib.Core.Path.{◌≡◌, refl, sym, ap, ◌∙◌}
-use mathlib.Core.Bool.{Bool, true, false}
+use mathlib.Core.Bool.{Bool, true, false, ◌&&◌, true≢false}
 use mathlib.Core.List.{List, [], ◌∷◌}
 use mathlib.Core.Option.{Option, none, some}
 use Prim.Native.Nat.{ℕ, zero, suc, ◌+◌, ◌-◌, ◌≤◌, ◌<◌}
-use native.Mathlib.Decide.{ℕ_discrete}
 use native.Mathlib.Numerals.{add-one}
 use native.Mathlib.Omega.{arith}
 use borrow.Author.Tests.{eq-eqb, ne_eqb, eqb-true, eqb-false}
@@ -12,15 +11,15 @@ use lib.Dec.{eqb}
 use lib.ListN.{length, get_or, take, drop, drop_of_length-le}
 use lib.Seq.{drop-cons}
 use Rattle.laws.specs.Basics.{both, same, basics}
-use Rattle.laws.proofs.Writing.{to_end}
 use Rattle.laws.proofs.Options.{none_some, some_value}
 use Rattle.rules.specs.Text.{unsigned32}
 use Rattle.rules.specs.Sheet.{value_of, then_read, header_line, sheet_rules}
-use Rattle.text_decimals.specs.declared.Number.{Number}
+use Rattle.std.specs.Prelude as std
+use Rattle.std.specs.Prelude.{None, Some, option_copied, MatchOption}
+use Rattle.std.specs.Borrow.{Bor}
+use lib.Pointwise.{pointwise}
 use Rattle.text_decimals.specs.Reads.{shown}
-use Rattle.sheet_keys.specs.declared.Found.{Found}
-use Rattle.sheet_keys.specs.declared.Found.TheVariants.{None, At}
-use Rattle.sheet_keys.specs.Places.{first_from, value_from, place_of, Keyed}
+use Rattle.sheet_keys.specs.Places.{first_from, Keyed}
 
 -- ---- the first place
 
@@ -87,97 +86,67 @@ placed c i (x ∷ cs) p e = by (eqb x c) refl e (λ q. placed c (suc i) cs p q)
 
 -- ---- keys
 
-module _ (key line : List ℕ) where
-  abbrev pub Matched : ℕ → Type 0
-  Matched i = value_of key line ≡ value_of (drop i key) (drop i line)
+-- what `strip_prefix` tests
+value_there : (key line : List ℕ) → pointwise eqb (take (length key) line) key ≡ true → value_of key line ≡ some (drop (length key) line)
+unfolding sheet_rules
+value_there [] line h = refl
+value_there (k ∷ ks) [] h = absurd (true≢false (sym h))
+value_there (k ∷ ks) (c ∷ cs) h = by (eqb c k) refl h (λ h. value_there ks cs h)
+  where
+    by : (b : Bool) → eqb c k ≡ b → (b && pointwise eqb (take (length ks) cs) ks) ≡ true → (pointwise eqb (take (length ks) cs) ks ≡ true → value_of ks cs ≡ some (drop (length ks) cs)) → value_of (k ∷ ks) (c ∷ cs) ≡ some (drop (length ks) cs)
+    by true q h again =
+        ap (λ (b : Bool). elim b [ true ↦ value_of ks cs | false ↦ none ]) (eq-eqb k c (sym (eqb-true c k q)))
+        ∙ again h
+    by false q h again = absurd (true≢false (sym h))
 
-  module _ (i : ℕ) (now : Matched i) (h : i < length key) where
-    pub too_short : length line ≤ i → Keyed key line None
-    unfolding sheet_rules
-    too_short k =
-        record {
-          is = now ∙ (λ j. value_of (drop-cons key i 0 h j) (drop_of_length-le line k j));
-          inside = omega arith;
-        }
+value_missing : (key line : List ℕ) → pointwise eqb (take (length key) line) key ≡ false → value_of key line ≡ none
+unfolding sheet_rules
+value_missing [] line h = absurd (true≢false h)
+value_missing (k ∷ ks) [] h = refl
+value_missing (k ∷ ks) (c ∷ cs) h = by (eqb c k) refl h (λ h. value_missing ks cs h)
+  where
+    by : (b : Bool) → eqb c k ≡ b → (b && pointwise eqb (take (length ks) cs) ks) ≡ false → (pointwise eqb (take (length ks) cs) ks ≡ false → value_of ks cs ≡ none) → value_of (k ∷ ks) (c ∷ cs) ≡ none
+    by true q h again =
+        ap (λ (b : Bool). elim b [ true ↦ value_of ks cs | false ↦ none ]) (eq-eqb k c (sym (eqb-true c k q)))
+        ∙ again h
+    by false q h again =
+        ap (λ (b : Bool). elim b [ true ↦ value_of ks cs | false ↦ none ]) (ne_eqb k c (λ e. eqb-false c k q (sym e)))
 
-    both_step : i < length line → value_of key line ≡ elim (eqb (get_or key i 0) (get_or line i 0)) [ true ↦ value_of (drop (suc i) key) (drop (suc i) line) | false ↦ none ]
-    unfolding sheet_rules
-    both_step k = now ∙ (λ j. value_of (drop-cons key i 0 h j) (drop-cons line i 0 k j))
+pub keyed : (key line : List ℕ) (r : std.Option (Bor (List ℕ)))
+    → MatchOption r (pointwise eqb (take (length key) line) key ≡ false)
+    (λ (v : Bor (List ℕ)). (pointwise eqb (take (length key) line) key ≡ true) × (v.now ≡ drop (length key) line) × (length v.now + length key ≡ length line))
+    → Keyed key line r
+keyed key line None h = record { is = value_missing key line h; inside = tt }
+keyed key line (Some v) h =
+    let n = h.2 in
+    record { is = value_there key line h.0 ∙ ap (λ (l : List ℕ). some l) (sym h.1); inside = omega arith }
 
-    pub goes_on : i < length line → get_or key i 0 ≡ get_or line i 0 → Matched (i + 1)
-    goes_on k e =
-        both_step k
-        ∙ ap (λ (b : Bool). elim b [ true ↦ value_of (drop (suc i) key) (drop (suc i) line) | false ↦ none ]) (eq-eqb (get_or key i 0) (get_or line i 0) e)
-        ∙ ap (λ (n : ℕ). value_of (drop n key) (drop n line)) (sym (add-one i))
-
-    pub differs : i < length line → (get_or key i 0 ≡ get_or line i 0 → ⊥) → Keyed key line None
-    differs k d =
-        record {
-          is =
-              both_step k
-              ∙ ap (λ (b : Bool). elim b [ true ↦ value_of (drop (suc i) key) (drop (suc i) line) | false ↦ none ]) (ne_eqb (get_or key i 0) (get_or line i 0) d);
-          inside = omega arith;
-        }
-
-  pub matched : (i : ℕ) → Matched i → length key ≤ i → i ≤ length line → Keyed key line (At i)
-  unfolding sheet_rules
-  matched i now h k =
-      record { is = now ∙ ap (λ (l : List ℕ). value_of l (drop i line)) (drop_of_length-le key h); inside = k }
-
-module _ {key line : List ℕ} {r : Found} (k : Keyed key line r) where
+module _ {key line : List ℕ} {r : std.Option (Bor (List ℕ))} (k : Keyed key line r) where
   pub no_value : r ≡ None → value_of key line ≡ none
-  no_value e = k.is ∙ ap (value_from line) e
+  no_value e = k.is ∙ ap (λ (r : std.Option (Bor (List ℕ))). shown (option_copied r)) e
 
-  pub a_value : (p : ℕ) → r ≡ At p → value_of key line ≡ some (drop p line)
-  a_value p e = k.is ∙ ap (value_from line) e
-
-  pub value_inside : (p : ℕ) → r ≡ At p → p ≤ length line
-  value_inside p e = omega (arith, k.inside, ap place_of e)
+  pub a_value : (v : Bor (List ℕ)) → r ≡ Some v → value_of key line ≡ some v.now
+  a_value v e = k.is ∙ ap (λ (r : std.Option (Bor (List ℕ))). shown (option_copied r)) e
 
 -- ---- the header's lines and the last
 
-module _ (key line : List ℕ) (r : Found) (k : Keyed key line r) where
-  pub no_header : r ≡ None → none ≡ header_line key line
+module _ (key line : List ℕ) where
+  pub no_header : value_of key line ≡ none → none ≡ header_line key line
   unfolding sheet_rules
-  no_header e = sym (ap (λ (o : Option (List ℕ)). then_read o unsigned32) (no_value k e))
+  no_header e = sym (ap (λ (o : Option (List ℕ)). then_read o unsigned32) e)
 
-  pub header : (p : ℕ) (n : Number) → r ≡ At p → shown n ≡ unsigned32 (take (length line - p) (drop p line)) → shown n ≡ header_line key line
+  pub header : (v : List ℕ) (n : Option ℕ) → value_of key line ≡ some v → n ≡ unsigned32 v → n ≡ header_line key line
   unfolding sheet_rules
-  header p n e q =
-      q ∙ ap unsigned32 (to_end line p) ∙ sym (ap (λ (o : Option (List ℕ)). then_read o unsigned32) (a_value k p e))
+  header v n e q = q ∙ sym (ap (λ (o : Option (List ℕ)). then_read o unsigned32) e)
 
-is_empty : Option (List ℕ) → Bool
-is_empty none = false
-is_empty (some []) = true
-is_empty (some (c ∷ cs)) = false
-
-same_value : (key t : List ℕ) → same t key ≡ is_empty (value_of key t)
-unfolding basics sheet_rules is_empty
-same_value [] [] = refl
-same_value [] (c ∷ cs) = refl
-same_value (k ∷ ks) [] = refl
-same_value (k ∷ ks) (c ∷ cs) =
-    elim (ℕ_discrete k c) [
-      | yes e ↦
-          (λ j. both (eq-eqb c k (sym e) j) (same cs ks)) ∙ same_value ks cs
-          ∙ sym (ap (λ (b : Bool). is_empty (elim b [ true ↦ value_of ks cs | false ↦ none ])) (eq-eqb k c e))
-      | no d ↦
-          (λ j. both (ne_eqb c k (λ q. d (sym q)) j) (same cs ks))
-          ∙ sym (ap (λ (b : Bool). is_empty (elim b [ true ↦ value_of ks cs | false ↦ none ])) (ne_eqb k c d))
-    ]
-
-all_read : (line : List ℕ) (p : ℕ) → p ≤ length line → eqb p (length line) ≡ is_empty (some (drop p line))
-unfolding is_empty
-all_read line p h =
-    elim (ℕ_discrete p (length line)) [
-      | yes e ↦ eq-eqb p (length line) e ∙ sym (ap (λ (l : List ℕ). is_empty (some l)) (drop_of_length-le line {i = p} (omega arith)))
-      | no d ↦ ne_eqb p (length line) d ∙ sym (ap (λ (l : List ℕ). is_empty (some l)) (drop-cons line p 0 (omega arith)))
-    ]
-
-module _ (key line : List ℕ) (r : Found) (k : Keyed key line r) where
-  pub not_end : r ≡ None → false ≡ same line key
-  unfolding is_empty
-  not_end e = sym (same_value key line ∙ ap is_empty (no_value k e))
-
-  pub at_end : (p : ℕ) → r ≡ At p → eqb p (length line) ≡ same line key
-  at_end p e = all_read line p (value_inside k p e) ∙ sym (same_value key line ∙ ap is_empty (a_value k p e))
+-- `==` on slices
+pub pointwise_same : (xs ys : List ℕ) → pointwise eqb xs ys ≡ same xs ys
+unfolding basics
+pointwise_same [] [] = refl
+pointwise_same [] (y ∷ ys) = refl
+pointwise_same (x ∷ xs) [] = refl
+pointwise_same (x ∷ xs) (y ∷ ys) = by (eqb x y) (pointwise_same xs ys)
+  where
+    by : (b : Bool) → pointwise eqb xs ys ≡ same xs ys → (b && pointwise eqb xs ys) ≡ both b (same xs ys)
+    by true e = e
+    by false e = refl

@@ -3,115 +3,135 @@
 // `ref=L`." A line is written out as the bytes of its node; nothing is written where it is bad.
 #![tactic(auto)]
 
-ghost use Rattle.std.specs.Prelude.{◌+◌, ◌≤◌, ◌<◌, length};
+ghost use Rattle.std.specs.Prelude.{◌≡◌, ◌+◌, ◌≤◌, ◌<◌, length};
 ghost use Rattle.rules.specs.Sheet as rules;
-ghost use Rattle.sheet_keys.specs.Places.{Keyed};
 ghost use Rattle.sheet_nodes.specs.Written.{Lined};
-ghost use Rattle.sheet_lines.specs.Lines.{key_at, FormRead, form_at, scoped_at};
+ghost use Rattle.sheet_lines.specs.Lines.{form_of, FormRead, scoped_at};
 
-// A line's form by its number in the rules' list, and where its value begins.
+use sheet_nodes::Node;
+
+// What a line may be.
 #[derive(Clone, Copy)]
 enum Form {
-    None,
-    Of(usize, usize),
+    Bool,
+    Char,
+    Num,
+    Str,
+    Sym,
+    Ident,
+    Nil,
+    Eof,
+    Undef,
+    Void,
+    Pair,
+    Vec,
+    Def,
+    Ref,
 }
 
-// The line begins with the key of the form of this number.
-fn key_of(line: &[u8], k: usize) -> sheet_keys::Found
-    requires { k < 14 }
-    ensures { Keyed (key_at k) line.now result }
-{
-    match k {
-        0 => sheet_keys::after(line, b"bool="),
-        1 => sheet_keys::after(line, b"char="),
-        2 => sheet_keys::after(line, b"num="),
-        3 => sheet_keys::after(line, b"str="),
-        4 => sheet_keys::after(line, b"sym="),
-        5 => sheet_keys::after(line, b"ident="),
-        6 => sheet_keys::after(line, b"nil="),
-        7 => sheet_keys::after(line, b"eof="),
-        8 => sheet_keys::after(line, b"undef="),
-        9 => sheet_keys::after(line, b"void="),
-        10 => sheet_keys::after(line, b"pair="),
-        11 => sheet_keys::after(line, b"vec="),
-        12 => sheet_keys::after(line, b"def="),
-        _ => sheet_keys::after(line, b"ref="),
-    }
-}
+// In the order in which they are tried.
+const FORMS: [Form; 14] = [
+    Form::Bool,
+    Form::Char,
+    Form::Num,
+    Form::Str,
+    Form::Sym,
+    Form::Ident,
+    Form::Nil,
+    Form::Eof,
+    Form::Undef,
+    Form::Void,
+    Form::Pair,
+    Form::Vec,
+    Form::Def,
+    Form::Ref,
+];
 
-// The first form whose key the line begins with.
-fn find_form(line: &[u8]) -> Form
-    ensures { FormRead line.now result }
-{
-    let mut k = 0;
-    while k < 14 {
-        let f = key_of(line, k);
-        match f {
-            sheet_keys::Found::None => k += 1,
-            sheet_keys::Found::At(p) => return Form::Of(k, p),
+impl Form {
+    // What a line of the form begins with.
+    #[tactic(auto, unfolding(rules::specs::Sheet::sheet_rules, laws::specs::Basics::basics, crate::specs::Lines::lines_words))]
+    fn key(self) -> &'static [u8]
+        ensures { result.now ≡ (form_of self).key }
+    {
+        match self {
+            Form::Bool => b"bool=",
+            Form::Char => b"char=",
+            Form::Num => b"num=",
+            Form::Str => b"str=",
+            Form::Sym => b"sym=",
+            Form::Ident => b"ident=",
+            Form::Nil => b"nil=",
+            Form::Eof => b"eof=",
+            Form::Undef => b"undef=",
+            Form::Void => b"void=",
+            Form::Pair => b"pair=",
+            Form::Vec => b"vec=",
+            Form::Def => b"def=",
+            Form::Ref => b"ref=",
         }
     }
-    Form::None
+
+    // The value of a line of the form.
+    #[tactic(auto, unfolding(rules::specs::Sheet::sheet_rules, sheet_nodes::specs::Written::written_words, crate::specs::Lines::lines_words))]
+    fn write(self, value: &[u8], out: &mut [u8], at: usize) -> Option<Node>
+        requires { at + 9 + length value.now ≤ length out.old }
+        ensures { Lined out.old at ((form_of self).read value.now) out.new result }
+    {
+        match self {
+            Form::Bool => sheet_nodes::numbered(4, value, out, at),
+            Form::Char => sheet_nodes::numbered(5, value, out, at),
+            Form::Num => sheet_nodes::signed_number(value, out, at),
+            Form::Str => sheet_nodes::hexed(7, value, out, at),
+            Form::Sym => sheet_nodes::hexed(8, value, out, at),
+            Form::Ident => scoped(value, out, at),
+            Form::Nil => sheet_nodes::bare(1, 0, value, out, at),
+            Form::Eof => sheet_nodes::bare(2, 0, value, out, at),
+            Form::Undef => sheet_nodes::bare(0, 0, value, out, at),
+            Form::Void => sheet_nodes::bare(3, 0, value, out, at),
+            Form::Pair => sheet_nodes::bare(9, 2, value, out, at),
+            Form::Vec => sheet_nodes::numbered(10, value, out, at),
+            Form::Def => sheet_nodes::numbered(12, value, out, at),
+            Form::Ref => sheet_nodes::numbered(13, value, out, at),
+        }
+    }
+}
+
+// The first form whose key the line begins with, and the value behind the key.
+fn find_form(line: &[u8]) -> Option<(Form, &[u8])>
+    ensures { FormRead line.now result }
+{
+    for form in FORMS {
+        if let Some(value) = sheet_keys::after(line, form.key()) {
+            return Some((form, value));
+        }
+    }
+    None
 }
 
 // SCOPE:HEX, with the colon at a place.
-fn scoped_at(value: &[u8], p: usize, out: &mut [u8], at: usize) -> sheet_nodes::NodeLine
+fn scoped_at(value: &[u8], p: usize, out: &mut [u8], at: usize) -> Option<Node>
     requires p_in_bounds { p < length value.now }
     requires value_in_bounds { at + 9 + length value.now ≤ length out.old }
     ensures { Lined out.old at (scoped_at value.now p) out.new result }
 {
-    let n = text_decimals::unsigned32(&value[..p]);
-    let next = p + 1;
-    match n {
-        text_decimals::Number::Bad => sheet_nodes::NodeLine::Bad,
-        text_decimals::Number::Good(m) => sheet_nodes::ident(m, &value[next..], out, at),
-    }
+    let scope = text_decimals::unsigned32(&value[..p])?;
+    sheet_nodes::ident(scope, &value[p + 1..], out, at)
 }
 
 // SCOPE:HEX
-fn scoped(value: &[u8], out: &mut [u8], at: usize) -> sheet_nodes::NodeLine
+fn scoped(value: &[u8], out: &mut [u8], at: usize) -> Option<Node>
     requires { at + 9 + length value.now ≤ length out.old }
     ensures { Lined out.old at (rules.scoped value.now) out.new result }
 {
-    let f = sheet_keys::find(value, 0, 58);
-    match f {
-        sheet_keys::Found::None => sheet_nodes::NodeLine::Bad,
-        sheet_keys::Found::At(p) => scoped_at(value, p, out, at),
-    }
-}
-
-// The value of a line of the form of this number.
-fn write_form(k: usize, value: &[u8], out: &mut [u8], at: usize) -> sheet_nodes::NodeLine
-    requires k_bound { k < 14 }
-    requires value_in_bounds { at + 9 + length value.now ≤ length out.old }
-    ensures { Lined out.old at ((form_at k).read value.now) out.new result }
-{
-    match k {
-        0 => sheet_nodes::numbered(4, value, out, at),
-        1 => sheet_nodes::numbered(5, value, out, at),
-        2 => sheet_nodes::signed_number(value, out, at),
-        3 => sheet_nodes::hexed(7, value, out, at),
-        4 => sheet_nodes::hexed(8, value, out, at),
-        5 => scoped(value, out, at),
-        6 => sheet_nodes::bare(1, 0, value, out, at),
-        7 => sheet_nodes::bare(2, 0, value, out, at),
-        8 => sheet_nodes::bare(0, 0, value, out, at),
-        9 => sheet_nodes::bare(3, 0, value, out, at),
-        10 => sheet_nodes::bare(9, 2, value, out, at),
-        11 => sheet_nodes::numbered(10, value, out, at),
-        12 => sheet_nodes::numbered(12, value, out, at),
-        _ => sheet_nodes::numbered(13, value, out, at),
-    }
+    let p = sheet_keys::find(value, 0, b':')?;
+    scoped_at(value, p, out, at)
 }
 
 // A node line, written out from a place on.
-pub fn node_line(line: &[u8], out: &mut [u8], at: usize) -> sheet_nodes::NodeLine
+pub fn node_line(line: &[u8], out: &mut [u8], at: usize) -> Option<Node>
     requires { at + 9 + length line.now ≤ length out.old }
     ensures { Lined out.old at (rules.node_line line.now) out.new result }
 {
-    let f = find_form(line);
-    match f {
-        Form::None => sheet_nodes::NodeLine::Bad,
-        Form::Of(k, p) => write_form(k, &line[p..], out, at),
-    }
+    let (form, value) = find_form(line)?;
+    form.write(value, out, at)
 }

@@ -8,13 +8,14 @@ use native.Mathlib.Omega.{arith}
 use borrow.Author.Tests.{leb-true}
 use lib.Dec.{leb}
 use lib.ListN.{length, get_or, set, length-map, get_or-map}
+use Rattle.std.specs.Prelude as std
 use Rattle.laws.specs.Basics.{ascii, choose, rising, basics}
 use Rattle.laws.proofs.Tests.{both_left}
 use Rattle.laws.proofs.Lists.{told_again}
 use Rattle.laws.proofs.Pointwise.{get_d_part, length_part}
 use Rattle.laws.proofs.Options.{some_value}
 use Rattle.rules.specs.Cells.{undefined, scalar, Block, Cell, plain, pair, symbol, string, vector}
-use Rattle.rules.specs.Heap.{Heap, capacity, cell_at, in_use, part_of, text_of, elements_of}
+use Rattle.rules.specs.Heap.{Heap, cell_at, in_use, part_of, text_of, elements_of}
 use Rattle.rules.specs.Layout.{Lent, map_bytes, rooms_of, heap_of, layout_rules}
 use Rattle.rules.specs.Sound.{text_block, vector_block, cell_allowed, Sound, sound, sound_rules}
 use Rattle.rules.specs.Text.{decimal, hex}
@@ -24,8 +25,6 @@ use Rattle.rules.proofs.Good.{CellGood}
 use Rattle.rules.proofs.GoodSound.{sound_good}
 use Rattle.rules.proofs.Keeping.{lies_below}
 use Rattle.leaf_cells.specs.Cells.{cell_of, lookup_of, looked_up}
-use Rattle.leaf_cells.specs.declared.Lookup.{Lookup}
-use Rattle.leaf_cells.specs.declared.Lookup.TheVariants as look
 use Rattle.leaf_cells.specs.declared.VCell.{VCell}
 use Rattle.leaf_cells.proofs.HeapLaws.{looked_up_is, text_is}
 use Rattle.leaf_cells.proofs.CallLaws.{load_element_on}
@@ -56,15 +55,15 @@ module _ (l : Lent) (is : sound l ≡ true) where
       (λ j. looked_up (sym again j).words (sym again j).map s)
       ∙ looked_up_is (rooms_of l).slots (map_bytes (rooms_of l).slots) h s (sound_fits l clear).slots
 
-  module _ (s : ℕ) (f : Lookup) (told : lookup_of f ≡ looked_up l.words l.map s) where
-    pub found_cell : (c : VCell) → f ≡ look.Found c → (in_use h s ≡ true) × (cell_of c ≡ cell_at h s)
+  module _ (s : ℕ) (f : std.Option VCell) (told : lookup_of f ≡ looked_up l.words l.map s) where
+    pub found_cell : (c : VCell) → f ≡ std.Some c → (in_use h s ≡ true) × (cell_of c ≡ cell_at h s)
     found_cell c e = by (in_use h s) (ap lookup_of (sym e) ∙ told ∙ looked s)
       where
         by : (b : Bool) → some (cell_of c) ≡ choose b (some (cell_at h s)) none → (b ≡ true) × (cell_of c ≡ cell_at h s)
         by true q = (refl, some_value q)
         by false q = none_some (sym q)
 
-    pub not_found : f ≡ look.NotInUse → in_use h s ≡ false
+    pub not_found : f ≡ std.None → in_use h s ≡ false
     not_found e = by (in_use h s) (ap lookup_of (sym e) ∙ told ∙ looked s)
       where
         by : (b : Bool) → none ≡ choose b (some (cell_at h s)) none → b ≡ false

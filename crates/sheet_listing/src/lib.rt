@@ -3,18 +3,18 @@
 // of a lent buffer, and its length answered.
 #![tactic(auto)]
 
-ghost use Rattle.std.specs.Prelude.{◌≡◌, true, ◌∷◌, ◌++◌, map, ◌+◌, ◌*◌, ◌≤◌, length};
+ghost use Rattle.std.specs.Prelude.{◌∷◌, ◌++◌, ◌+◌, ◌*◌, ◌≤◌, length};
 ghost use Rattle.laws.specs.Basics.{ascii};
 ghost use Rattle.rules.specs.Layout.{heap_of};
-ghost use Rattle.rules.specs.Sound.{sound};
 ghost use Rattle.rules.specs.Text.{decimal, hex};
 ghost use Rattle.rules.specs.Listing.{print_slot};
 ghost use Rattle.leaf_cells.specs.Cells.{cell_of};
 ghost use Rattle.text_numbers.specs.Answers.{Printed};
-ghost use Rattle.heap_sound_rows.specs.Rows.{lists};
+ghost use Rattle.leaf_lists.specs.Lists.{lent_of};
 ghost use Rattle.sheet_print.specs.Printing.{most_line, most_cell, Within, listed, element_text, cell_text, ShownIn, slot_text};
 
-use leaf_cells::{Lookup, VCell, Value};
+use heap_sound::Sound;
+use leaf_cells::{VCell, Value};
 
 // A vector's elements, with commas between.
 fn print_elements(elems: &[u64], place: usize, size: usize, out: &mut [u8], at: usize) -> usize
@@ -23,11 +23,9 @@ fn print_elements(elems: &[u64], place: usize, size: usize, out: &mut [u8], at: 
     ensures { Within (26 * size) out.old at (listed (element_text elems.now place) size) out.new result }
 {
     let mut end = at;
-    let mut i = 0;
-    while i < size {
+    for i in 0..size {
         let next = sheet_print::print_comma(i, out, end);
         end = sheet_values::print_value(leaf_cells::load_element(elems, place + i), out, next);
-        i += 1;
     }
     end
 }
@@ -38,7 +36,7 @@ fn print_vector(elems: &[u64], place: usize, size: usize, out: &mut [u8], at: us
     requires size_in_bounds_2 { at + 4 + 26 * size ≤ length out.old }
     ensures { Within (4 + 26 * size) out.old at (ascii "vec:" ++ listed (element_text elems.now place) size) out.new result }
 {
-    let end = sheet_print::print_text(b"vec:", out, at);
+    let end = text_numbers::print_text(b"vec:", out, at);
     print_elements(elems, place, size, out, end)
 }
 
@@ -47,7 +45,7 @@ fn print_hexed(key: &[u8], text: &[u8], out: &mut [u8], at: usize) -> usize
     requires { at + length key.now + 2 * length text.now ≤ length out.old }
     ensures { Printed out.old at (key.now ++ hex text.now) out.new result }
 {
-    let end = sheet_print::print_text(key, out, at);
+    let end = text_numbers::print_text(key, out, at);
     text_numbers::print_hex(text, out, end)
 }
 
@@ -82,42 +80,25 @@ fn print_cell(bytes: &[u8], elems: &[u64], c: VCell, out: &mut [u8], at: usize) 
 }
 
 // What a slot shows, or that it is free.
-fn print_shown(
-    words: &[u64],
-    map: &[u8],
-    bytes: &[u8],
-    elems: &[u64],
-    slot: usize,
-    out: &mut [u8],
-    at: usize,
-) -> usize
-    requires elems_value { sound (lists words.now map.now bytes.now elems.now) ≡ true }
-    requires most_cell_in_bounds { at + most_cell ≤ length out.old }
-    ensures { Within most_cell out.old at (slot_text (heap_of (lists words.now map.now bytes.now elems.now)) slot) out.new result }
+fn print_shown(heap: Sound<'_>, slot: usize, out: &mut [u8], at: usize) -> usize
+    requires { at + most_cell ≤ length out.old }
+    ensures { Within most_cell out.old at (slot_text (heap_of (lent_of heap.entry.lists)) slot) out.new result }
 {
-    let found = leaf_cells::look_up(words, map, slot);
-    match found {
-        Lookup::Found(c) => print_cell(bytes, elems, c, out, at),
-        Lookup::NotInUse => sheet_print::print_text(b"free", out, at),
+    let lists = heap.lists;
+    match leaf_cells::look_up(lists.words, lists.map, slot) {
+        Some(c) => print_cell(lists.bytes, lists.elems, c, out, at),
+        None => text_numbers::print_text(b"free", out, at),
     }
 }
 
 // The line of a slot.
-pub fn slot_line(
-    words: &[u64],
-    map: &[u8],
-    bytes: &[u8],
-    elems: &[u64],
-    slot: usize,
-    out: &mut [u8],
-) -> usize
-    requires elems_value { sound (lists words.now map.now bytes.now elems.now) ≡ true }
-    requires most_line_in_bounds { most_line ≤ length out.old }
-    ensures { Within most_line out.old 0 (print_slot (heap_of (lists words.now map.now bytes.now elems.now)) slot) out.new result }
+pub fn slot_line(heap: Sound<'_>, slot: usize, out: &mut [u8]) -> usize
+    requires { most_line ≤ length out.old }
+    ensures { Within most_line out.old 0 (print_slot (heap_of (lent_of heap.entry.lists)) slot) out.new result }
 {
     let key = sheet_print::print_keyed(b"slot", slot as u64, out, 0);
-    out[key] = 61;
-    let end = print_shown(words, map, bytes, elems, slot, out, key + 1);
-    out[end] = 10;
+    out[key] = b'=';
+    let end = print_shown(heap, slot, out, key + 1);
+    out[end] = b'\n';
     end + 1
 }

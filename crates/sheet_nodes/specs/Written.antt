@@ -1,32 +1,32 @@
 -- What a node line is written out as. Assumes nothing.
-use Rattle.std.specs.Prelude.{◌≡◌, List, ℕ, ◌-◌, ◌≤◌, eqb, length}
-use Rattle.std.proofs.Math.Option.{Option, none, some}
+use Rattle.std.specs.Prelude.{◌≡◌, List, ℕ, ◌-◌, ◌≤◌, eqb, length, Option, Some, None}
+use Rattle.std.proofs.Math.Option as maybe
+use Rattle.std.proofs.Math.Option.{none, some}
 use Rattle.laws.specs.Basics.{choose}
 use Rattle.rules.specs.Nodes.{write_text}
 use Rattle.rules.specs.Sheet.{Line}
 use Rattle.text_numbers.specs.Answers.{written}
-use Rattle.sheet_nodes.specs.declared.NodeLine.{NodeLine}
-use Rattle.sheet_nodes.specs.declared.NodeLine.TheVariants as node
+use Rattle.sheet_nodes.specs.declared.Node.{Node}
 
 unfoldable pub follow_of : ℕ → ℕ → ℕ
 follow_of kind n = choose (eqb kind 10) n (choose (eqb kind 12) 1 0)
 
-unfoldable pub line_answer : Option Line → NodeLine
-line_answer none = node.Bad
-line_answer (some l) = node.Good (length l.node) l.follow
+unfoldable pub line_answer : maybe.Option Line → Option Node
+line_answer none = None
+line_answer (some l) = Some (record { size = length l.node; follow = l.follow })
 
 -- the node's bytes written from a place on; nothing where the line is bad
-unfoldable pub line_bytes : List ℕ → ℕ → Option Line → List ℕ
+unfoldable pub line_bytes : List ℕ → ℕ → maybe.Option Line → List ℕ
 line_bytes before at none = before
 line_bytes before at (some l) = written before at l.node
 
 -- how many bytes an answer says
-abbrev pub size_of : NodeLine → ℕ
-size_of node.Bad = 0
-size_of (node.Good size follow) = size
+abbrev pub size_of : Option Node → ℕ
+size_of None = 0
+size_of (Some n) = n.size
 
 -- a line was written out, inside the room
-pub record Lined (before : List ℕ) (at : ℕ) (x : Option Line) (after : List ℕ) (r : NodeLine) : Type 0 where
+pub record Lined (before : List ℕ) (at : ℕ) (x : maybe.Option Line) (after : List ℕ) (r : Option Node) : Type 0 where
   pub answer : r ≡ line_answer x
   pub bytes : after ≡ line_bytes before at x
   pub room : size_of r ≤ length before - at

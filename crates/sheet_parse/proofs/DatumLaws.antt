@@ -11,6 +11,7 @@ use Rattle.laws.proofs.Stores.{sets_in}
 use Rattle.rules.specs.Sheet as rules
 use Rattle.text_numbers.specs.Answers.{answers}
 use Rattle.sheet_parse.specs.declared.Sheet as code
+use Rattle.std.specs.Prelude as std
 use Rattle.sheet_parse.specs.Parsed.{totals, data_in, bytes_of, ends_of, Parsed, place_before, Within, part_of, parsed_words}
 use Rattle.sheet_parse.proofs.SheetLaws.{length-totals}
 
@@ -107,7 +108,7 @@ module _ (out₀ ends₀ : List ℕ) (ds : List (List ℕ)) (room : length (join
 
 -- ---- what a caller may use: on what a parse left, each datum of the sheet is found
 
-module _ {t out₀ ends₀ out ends : List ℕ} {r : code.Sheet} (p : Parsed t out₀ ends₀ out ends r) (s : rules.Sheet) (e : rules.sheet t ≡ some s) (i : ℕ) (h : i < length (rules.data_of s)) where
+module _ {t out₀ ends₀ out ends : List ℕ} {r : std.Option code.Sheet} (p : Parsed t out₀ ends₀ out ends r) (s : rules.Sheet) (e : rules.sheet t ≡ some s) (i : ℕ) (h : i < length (rules.data_of s)) where
   room_of : length (join (λ d. d) (rules.data_of s)) ≤ length out₀
   unfolding parsed_words
   room_of = omega (arith, p.room, ap (λ (x : Option rules.Sheet). length (join (λ d. d) (data_in x))) e)

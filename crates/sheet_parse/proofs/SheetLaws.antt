@@ -15,13 +15,12 @@ use Rattle.sheet_keys.specs.Places.{first_from}
 use Rattle.sheet_keys.proofs.LineLaws.{and_line, only_empty, line_found, line_missing}
 use Rattle.sheet_nodes.proofs.NodeLaws.{then_none, then_some}
 use Rattle.sheet_parse.specs.declared.Sheet as code
-use Rattle.sheet_parse.specs.declared.Sheet.TheVariants as sheet_as
 use Rattle.sheet_parse.specs.declared.Front as code_front
-use Rattle.sheet_parse.specs.declared.Front.TheVariants as front_as
 use Rattle.sheet_parse.specs.declared.Nodes.{Nodes}
-use Rattle.sheet_parse.specs.declared.Nodes.TheVariants as nodes
-use Rattle.sheet_parse.specs.Parsed.{totals, data_in, answer_of, bytes_of, ends_of, Parsed, parsed_words}
-use Rattle.sheet_parse.specs.Steps.{Numbered, line_number, header_at, Front, slots_after, front_of, front_told, front_next, FrontRead, begun_at, nodes_from, ends_from, bytes_from, Outcome, come_to, outcome, count_of, used_of, NodesRead, steps_words}
+use Rattle.std.specs.Prelude as std
+use Rattle.std.specs.Prelude.{None, Some}
+use Rattle.sheet_parse.specs.Parsed.{sheet_of, totals, data_in, answer_of, bytes_of, ends_of, Parsed, parsed_words}
+use Rattle.sheet_parse.specs.Steps.{Numbered, line_number, header_at, Front, slots_after, front_of, FrontRead, begun_at, nodes_from, ends_from, bytes_from, Outcome, come_to, nodes_of, outcome, count_of, used_of, NodesRead, steps_words}
 
 -- ---- the sheet
 
@@ -134,7 +133,7 @@ length-totals at (d ∷ ds) = ap suc (length-totals (at + length d) ds)
 
 -- ---- the answer
 
-module _ {t out₀ ends₀ out ends : List ℕ} {r : code.Sheet} where
+module _ {t out₀ ends₀ out ends : List ℕ} {r : std.Option code.Sheet} where
   parsed_as : (x : Option rules.Sheet) → sheet t ≡ x → r ≡ answer_of x → out ≡ bytes_of out₀ x → ends ≡ ends_of ends₀ x → length (join (λ d. d) (data_in x)) ≤ length out₀ → length (data_in x) ≤ length ends₀ → Parsed t out₀ ends₀ out ends r
   parsed_as x e a b c d f =
       record {
@@ -146,58 +145,54 @@ module _ {t out₀ ends₀ out ends : List ℕ} {r : code.Sheet} where
       }
 
 module _ {t out₀ ends₀ out ends : List ℕ} where
-  pub parsed_bad : sheet t ≡ none → out ≡ zeros (length out₀) → ends ≡ zeros (length ends₀) → Parsed t out₀ ends₀ out ends sheet_as.Bad
+  pub parsed_bad : sheet t ≡ none → out ≡ zeros (length out₀) → ends ≡ zeros (length ends₀) → Parsed t out₀ ends₀ out ends None
   unfolding parsed_words basics
   parsed_bad e o p = parsed_as none e refl o p (omega arith) (omega arith)
 
-module _ (t out₀ ends₀ : List ℕ) (f : code_front.Front) (h : FrontRead t f) where
-  pub front_bad : f ≡ front_as.Bad → sheet t ≡ none
-  front_bad e = sheet_told t ∙ then_none (with_nodes t) (sym h.is ∙ ap front_told e)
+module _ (t out₀ ends₀ : List ℕ) where
+  pub front_bad : FrontRead t None → sheet t ≡ none
+  front_bad h = sheet_told t ∙ then_none (with_nodes t) (sym h.is)
 
-  module _ (c s next : ℕ) (e : f ≡ front_as.Good c s next) where
-    pub front_inside : next ≤ length t
-    front_inside = omega (arith, h.inside, ap front_next e)
-
-    front_good : sheet t ≡ then_read (nodes_from t next) (λ ls. some (record { chunk = c; slots = s; nodes = ls }))
+  module _ (f : code_front.Front) (h : FrontRead t (Some f)) where
+    front_good : sheet t ≡ then_read (nodes_from t f.next) (λ ls. some (record { chunk = f.chunk; slots = f.slots; nodes = ls }))
     unfolding with_nodes
-    front_good = sheet_told t ∙ then_some (with_nodes t) (sym h.is ∙ ap front_told e)
+    front_good = sheet_told t ∙ then_some (with_nodes t) (sym h.is)
 
-    module _ (out ends : List ℕ) (n : Nodes) (d : NodesRead t next out₀ ends₀ out ends n) where
-      pub nodes_bad : n ≡ nodes.Bad → Parsed t out₀ ends₀ out ends sheet_as.Bad
+    module _ (out ends : List ℕ) where
+      pub nodes_bad : NodesRead t f.next out₀ ends₀ out ends None → Parsed t out₀ ends₀ out ends None
       unfolding steps_words
-      nodes_bad q = by (nodes_from t next) refl d.is
+      nodes_bad d = by (nodes_from t f.next) refl d.is
         where
-          by : (o : Option (List Line)) → nodes_from t next ≡ o → come_to n out ends ≡ outcome out₀ ends₀ (begun_at next) o → Parsed t out₀ ends₀ out ends sheet_as.Bad
+          by : (o : Option (List Line)) → nodes_from t f.next ≡ o → come_to None out ends ≡ outcome out₀ ends₀ (begun_at f.next) o → Parsed t out₀ ends₀ out ends None
           by none k w = parsed_bad (front_good ∙ then_none _ k) (ap (λ (x : Outcome). x.bytes) w) (ap (λ (x : Outcome). x.ends) w)
           by (some ls) k w =
-              let a : nodes.Bad ≡ nodes.Good _ _ = sym q ∙ ap (λ (x : Outcome). x.answer) w in
+              let a : None ≡ nodes_of _ _ = ap (λ (x : Outcome). x.answer) w in
               let z : ◌≡◌ {A = ℕ} 0 1 = cc in
               absurd (omega arith)
 
-      pub nodes_good : (count used : ℕ) → n ≡ nodes.Good count used → Parsed t out₀ ends₀ out ends (sheet_as.Good c s count)
+      pub nodes_good : (n : Nodes) → NodesRead t f.next out₀ ends₀ out ends (Some n) → Parsed t out₀ ends₀ out ends (sheet_of f.chunk f.slots n.count)
       unfolding steps_words parsed_words sheet_rules
-      nodes_good count used q = by (nodes_from t next) refl d.is
+      nodes_good n d = by (nodes_from t f.next) refl d.is
         where
-          by : (o : Option (List Line)) → nodes_from t next ≡ o → come_to n out ends ≡ outcome out₀ ends₀ (begun_at next) o → Parsed t out₀ ends₀ out ends (sheet_as.Good c s count)
+          by : (o : Option (List Line)) → nodes_from t f.next ≡ o → come_to (Some n) out ends ≡ outcome out₀ ends₀ (begun_at f.next) o → Parsed t out₀ ends₀ out ends (sheet_of f.chunk f.slots n.count)
           by none k w =
-              let a : nodes.Good count used ≡ nodes.Bad = sym q ∙ ap (λ (x : Outcome). x.answer) w in
+              let a : Some n ≡ None = ap (λ (x : Outcome). x.answer) w in
               let z : ◌≡◌ {A = ℕ} 0 1 = cc in
               absurd (omega arith)
           by (some ls) k w =
-              let a : nodes.Good count used ≡ nodes.Good (0 + length (ends_from 0 0 1 ls)) (0 + length (bytes_from ls)) = sym q ∙ ap (λ (x : Outcome). x.answer) w in
-              let number : count ≡ 0 + length (ends_from 0 0 1 ls) = cc in
-              let size : used ≡ 0 + length (bytes_from ls) = cc in
+              let number : n.count ≡ 0 + length (ends_from 0 0 1 ls) = ap (λ (x : Outcome). count_of x.answer) w in
+              let size : n.used ≡ 0 + length (bytes_from ls) = ap (λ (x : Outcome). used_of x.answer) w in
               let ds = data_from [] 1 ls in
               let bytes : join (λ d. d) ds ≡ bytes_from ls = data_bytes [] 1 ls in
               let places : totals 0 ds ≡ ends_from 0 0 1 ls = data_ends 0 [] 1 ls in
-              let all : count ≡ length ds = omega (arith, number, ap length places, length-totals 0 ds) in
-              parsed_as (some (record { chunk = c; slots = s; nodes = ls }))
+              let all : n.count ≡ length ds = omega (arith, number, ap length places, length-totals 0 ds) in
+              parsed_as (some (record { chunk = f.chunk; slots = f.slots; nodes = ls }))
               (front_good ∙ then_some _ k)
-              (ap (sheet_as.Good c s) all)
+              (ap (sheet_of f.chunk f.slots) all)
               (ap (λ (x : Outcome). x.bytes) w ∙ sym (ap (written out₀ 0) bytes))
               (ap (λ (x : Outcome). x.ends) w ∙ sym (ap (written ends₀ 0) places))
-              (omega (arith, ap length bytes, size, d.room, ap used_of q))
-              (omega (arith, all, d.few, ap count_of q))
+              (omega (arith, ap length bytes, size, d.room))
+              (omega (arith, all, d.few))
 
 -- ---- what a caller may use
 
@@ -209,19 +204,27 @@ pub record IsSheet (t : List ℕ) (chunk slots count : ℕ) : Type 0 where
   pub slots_is : slots ≡ of.slots
   pub count_is : count ≡ length (rules.data_of of)
 
-module _ {t out₀ ends₀ out ends : List ℕ} {r : code.Sheet} (p : Parsed t out₀ ends₀ out ends r) where
-  pub bad_sheet : r ≡ sheet_as.Bad → sheet t ≡ none
+module _ {t out₀ ends₀ out ends : List ℕ} {r : std.Option code.Sheet} (p : Parsed t out₀ ends₀ out ends r) where
+  pub bad_sheet : r ≡ None → sheet t ≡ none
   unfolding parsed_words
   bad_sheet e = by (sheet t) (sym e ∙ p.answer)
     where
-      by : (x : Option rules.Sheet) → sheet_as.Bad ≡ answer_of x → x ≡ none
+      by : (x : Option rules.Sheet) → None ≡ answer_of x → x ≡ none
       by none a = refl
       by (some s) a = let z : ◌≡◌ {A = ℕ} 0 1 = cc in absurd (omega arith)
 
-  pub good_sheet : (c s n : ℕ) → r ≡ sheet_as.Good c s n → IsSheet t c s n
+  pub good_sheet : (c s n : ℕ) → r ≡ sheet_of c s n → IsSheet t c s n
   unfolding parsed_words
   good_sheet c s n e = by (sheet t) refl (sym e ∙ p.answer)
     where
-      by : (x : Option rules.Sheet) → sheet t ≡ x → sheet_as.Good c s n ≡ answer_of x → IsSheet t c s n
+      by : (x : Option rules.Sheet) → sheet t ≡ x → sheet_of c s n ≡ answer_of x → IsSheet t c s n
       by none q a = let z : ◌≡◌ {A = ℕ} 0 1 = cc in absurd (omega arith)
-      by (some x) q a = record { of = x; is = q; chunk_is = cc; slots_is = cc; count_is = cc }
+      by (some x) q a =
+          let same : ◌≡◌ {A = code.Sheet} (record { chunk = c; slots = s; count = n }) (record { chunk = x.chunk; slots = x.slots; count = length (rules.data_of x) }) = cc in
+          record {
+            of = x;
+            is = q;
+            chunk_is = ap (λ (s : code.Sheet). s.chunk) same;
+            slots_is = ap (λ (s : code.Sheet). s.slots) same;
+            count_is = ap (λ (s : code.Sheet). s.count) same;
+          }

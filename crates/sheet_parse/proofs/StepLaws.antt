@@ -16,11 +16,13 @@ use Rattle.text_numbers.specs.Answers.{written, answers}
 use Rattle.sheet_keys.specs.Places.{first_from}
 use Rattle.sheet_keys.proofs.LineLaws.{and_line, only_empty, line_found, line_missing}
 use Rattle.sheet_nodes.proofs.NodeLaws.{written_first, written_next}
+use Rattle.sheet_nodes.specs.declared.Node.{Node}
 use Rattle.sheet_parse.specs.declared.Reading.{Reading}
 use Rattle.sheet_parse.specs.declared.Reading.TheVariants as reading
-use Rattle.sheet_parse.specs.declared.Nodes.TheVariants as nodes
+use Rattle.std.specs.Prelude as std
+use Rattle.std.specs.Prelude.{None, Some}
 use Rattle.sheet_parse.specs.declared.Progress.{Progress}
-use Rattle.sheet_parse.specs.Steps.{Told, bad, last, node, told_at, reading_of, read_bytes, LineRead, begun_at, Roomy, stepped_to, stepped_ends_to, stepped, stepped_ends, last_end, finished, finished_ends, nodes_from, ends_from, bytes_from, Outcome, come_to, outcome, NodesRead, steps_words}
+use Rattle.sheet_parse.specs.Steps.{Told, bad, last, node, told_at, reading_of, node_read, nodes_of, read_bytes, LineRead, begun_at, Roomy, stepped_to, stepped_ends_to, stepped, stepped_ends, last_end, finished, finished_ends, nodes_from, ends_from, bytes_from, Outcome, come_to, outcome, NodesRead, steps_words}
 use Rattle.sheet_parse.proofs.SizeLaws.{line_fits}
 use Rattle.sheet_parse.proofs.ReadLaws.{Between, between, told_none, told_some}
 
@@ -55,13 +57,13 @@ module _ (p : Progress) (ends : List ℕ) where
 
 -- ---- what the answers tell
 
-is_bad : (x : Told) → reading.Bad ≡ reading_of x → x ≡ bad
+is_bad : (x : Told) → None ≡ reading_of x → x ≡ bad
 unfolding steps_words
 is_bad bad e = refl
 is_bad last e = let z : ◌≡◌ {A = ℕ} 0 1 = cc in absurd (omega arith)
 is_bad (node l n) e = let z : ◌≡◌ {A = ℕ} 0 1 = cc in absurd (omega arith)
 
-is_last : (x : Told) → reading.Last ≡ reading_of x → x ≡ last
+is_last : (x : Told) → Some reading.Last ≡ reading_of x → x ≡ last
 unfolding steps_words
 is_last bad e = let z : ◌≡◌ {A = ℕ} 0 1 = cc in absurd (omega arith)
 is_last last e = refl
@@ -73,13 +75,14 @@ record IsNode (x : Told) (size follow next : ℕ) : Type 0 where
   pub size_is : length line.node ≡ size
   pub follow_is : line.follow ≡ follow
 
-is_node : (x : Told) (size follow next : ℕ) → reading.Node size follow next ≡ reading_of x → IsNode x size follow next
+is_node : (x : Told) (size follow next : ℕ) → node_read size follow next ≡ reading_of x → IsNode x size follow next
 unfolding steps_words
 is_node bad size follow next e = let z : ◌≡◌ {A = ℕ} 0 1 = cc in absurd (omega arith)
 is_node last size follow next e = let z : ◌≡◌ {A = ℕ} 0 1 = cc in absurd (omega arith)
 is_node (node l n) size follow next e =
     let there : n ≡ next = cc in
-    record { line = l; is = ap (node l) there; size_is = cc; follow_is = cc }
+    let same : ◌≡◌ {A = Node} (record { size = length l.node; follow = l.follow }) (record { size = size; follow = follow }) = cc in
+    record { line = l; is = ap (node l) there; size_is = ap (λ (n : Node). n.size) same; follow_is = ap (λ (n : Node). n.follow) same }
 
 -- ---- a line of the text against the rules' lines
 
@@ -245,15 +248,15 @@ last_one start used = by (eqb start used)
     by false = omega arith
 
 module _ (t out ends : List ℕ) (p : Progress) where
-  stop_bad : told_at t p.at ≡ bad → come_to nodes.Bad (zeros (length out)) (zeros (length ends)) ≡ outcome out ends p (nodes_from t p.at)
+  stop_bad : told_at t p.at ≡ bad → come_to None (zeros (length out)) (zeros (length ends)) ≡ outcome out ends p (nodes_from t p.at)
   unfolding steps_words meaning
   stop_bad e = sym (ap (outcome out ends p) (nodes_told t p.at ∙ ap (meaning t) e))
 
-  stop_last : told_at t p.at ≡ last → come_to (nodes.Good (finished p) p.used) out (finished_ends ends p) ≡ outcome out ends p (nodes_from t p.at)
+  stop_last : told_at t p.at ≡ last → come_to (nodes_of (finished p) p.used) out (finished_ends ends p) ≡ outcome out ends p (nodes_from t p.at)
   unfolding steps_words meaning answers basics
   stop_last e =
       let full : p.used ≡ p.used + 0 = omega arith in
-      ap (λ (n : ℕ). come_to (nodes.Good (finished p) n) out (finished_ends ends p)) full
+      ap (λ (n : ℕ). come_to (nodes_of (finished p) n) out (finished_ends ends p)) full
       ∙ sym (ap (outcome out ends p) (nodes_told t p.at ∙ ap (meaning t) e))
 
   module _ (l : Line) (next : ℕ) where
@@ -261,24 +264,24 @@ module _ (t out ends : List ℕ) (p : Progress) where
     unfolding answers
     length-out = length-sets out p.used l.node
 
-    turn_by : (ls : List Line) (w : ℕ) → ◌≡◌ {A = Outcome} (let es : List ℕ = elim w [ zero ↦ (p.used + length l.node) ∷ ends_from (p.used + length l.node) (p.used + length l.node) 1 ls | suc n ↦ ends_from p.start (p.used + length l.node) (suc n) ls ] in come_to (nodes.Good (p.count + length es) (p.used + length (l.node ++ bytes_from ls))) (written out p.used (l.node ++ bytes_from ls)) (written ends p.count es)) (outcome (written out p.used l.node) (stepped_ends_to ends p (p.used + length l.node) w) (stepped_to p next (p.used + length l.node) w) (some ls))
+    turn_by : (ls : List Line) (w : ℕ) → ◌≡◌ {A = Outcome} (let es : List ℕ = elim w [ zero ↦ (p.used + length l.node) ∷ ends_from (p.used + length l.node) (p.used + length l.node) 1 ls | suc n ↦ ends_from p.start (p.used + length l.node) (suc n) ls ] in come_to (nodes_of (p.count + length es) (p.used + length (l.node ++ bytes_from ls))) (written out p.used (l.node ++ bytes_from ls)) (written ends p.count es)) (outcome (written out p.used l.node) (stepped_ends_to ends p (p.used + length l.node) w) (stepped_to p next (p.used + length l.node) w) (some ls))
     unfolding steps_words
     turn_by ls zero =
         let used = p.used + length l.node in
         let es = ends_from used used 1 ls in
         let c : p.count + suc (length es) ≡ p.count + 1 + length es = omega arith in
         let u : p.used + length (l.node ++ bytes_from ls) ≡ used + length (bytes_from ls) = omega (arith, length-append l.node (bytes_from ls)) in
-        λ j. come_to (nodes.Good (c j) (u j)) (sym (written_next out p.used (length l.node) l.node (bytes_from ls) refl) j) (sym (written_first ends p.count used es) j)
+        λ j. come_to (nodes_of (c j) (u j)) (sym (written_next out p.used (length l.node) l.node (bytes_from ls) refl) j) (sym (written_first ends p.count used es) j)
     turn_by ls (suc n) =
         let used = p.used + length l.node in
         let es = ends_from p.start used (suc n) ls in
         let u : p.used + length (l.node ++ bytes_from ls) ≡ used + length (bytes_from ls) = omega (arith, length-append l.node (bytes_from ls)) in
-        λ j. come_to (nodes.Good (p.count + length es) (u j)) (sym (written_next out p.used (length l.node) l.node (bytes_from ls) refl) j) (written ends p.count es)
+        λ j. come_to (nodes_of (p.count + length es) (u j)) (sym (written_next out p.used (length l.node) l.node (bytes_from ls) refl) j) (written ends p.count es)
 
     turn_with : (o : Option (List Line)) → outcome out ends p (then_read o (λ ls. some (l ∷ ls))) ≡ outcome (written out p.used l.node) (stepped_ends ends p (length l.node) l.follow) (stepped p (length l.node) l.follow next) o
     unfolding steps_words sheet_rules basics
     turn_with none =
-        λ j. come_to nodes.Bad (zeros (sym length-out j)) (zeros (sym (length-ends ends p (p.used + length l.node) (p.wants - 1 + l.follow)) j))
+        λ j. come_to None (zeros (sym length-out j)) (zeros (sym (length-ends ends p (p.used + length l.node) (p.wants - 1 + l.follow)) j))
     turn_with (some ls) = turn_by ls (p.wants - 1 + l.follow)
 
     turn : told_at t p.at ≡ node l next → outcome out ends p (nodes_from t p.at) ≡ outcome (written out p.used l.node) (stepped_ends ends p (length l.node) l.follow) (stepped p (length l.node) l.follow next) (nodes_from t next)
@@ -327,36 +330,36 @@ module _ {t out₀ ends₀ out ends : List ℕ} {from : ℕ} {p : Progress} (g :
   pub going_room : 2 * length t + 9 ≤ length out₀ → p.used + 9 + (length t - p.at) ≤ length out
   going_room h = let b = g.bounds in omega (arith, b.inside, b.used, g.same_out)
 
-  module _ (mid : List ℕ) (r : Reading) (read : LineRead out p.used (told_at t p.at) mid r) where
-    pub going_bad : (a b : List ℕ) → r ≡ reading.Bad → a ≡ zeros (length mid) → b ≡ zeros (length ends) → NodesRead t from out₀ ends₀ a b nodes.Bad
+  module _ (mid : List ℕ) (r : std.Option Reading) (read : LineRead out p.used (told_at t p.at) mid r) where
+    pub going_bad : (a b : List ℕ) → r ≡ None → a ≡ zeros (length mid) → b ≡ zeros (length ends) → NodesRead t from out₀ ends₀ a b None
     unfolding steps_words
     going_bad a b e q s =
         let x = is_bad (told_at t p.at) (sym e ∙ read.answer) in
         let kept : mid ≡ out = read.bytes ∙ ap (read_bytes out p.used) x in
         record {
-          is = (λ j. come_to nodes.Bad ((q ∙ ap (λ (l : List ℕ). zeros (length l)) kept) j) (s j)) ∙ stop_bad t out ends p x ∙ g.is;
+          is = (λ j. come_to None ((q ∙ ap (λ (l : List ℕ). zeros (length l)) kept) j) (s j)) ∙ stop_bad t out ends p x ∙ g.is;
           room = omega arith;
           few = omega arith;
         }
 
-    module _ (e : r ≡ reading.Last) (h : length t ≤ 5 * length ends₀) where
+    module _ (e : r ≡ Some reading.Last) (h : length t ≤ 5 * length ends₀) where
       the_last : told_at t p.at ≡ last
       the_last = is_last (told_at t p.at) (sym e ∙ read.answer)
 
       pub last_place : p.count < length ends
       last_place = omega (arith, last_goes t p.at the_last, g.bounds.few, g.same_ends)
 
-      pub going_last : (n : ℕ) (b : List ℕ) → n ≡ finished p → b ≡ finished_ends ends p → 2 * length t + 9 ≤ length out₀ → NodesRead t from out₀ ends₀ mid b (nodes.Good n p.used)
+      pub going_last : (n : ℕ) (b : List ℕ) → n ≡ finished p → b ≡ finished_ends ends p → 2 * length t + 9 ≤ length out₀ → NodesRead t from out₀ ends₀ mid b (nodes_of n p.used)
       unfolding steps_words
       going_last n b q s k =
           let kept : mid ≡ out = read.bytes ∙ ap (read_bytes out p.used) the_last in
           record {
-            is = (λ j. come_to (nodes.Good (q j) p.used) (kept j) (s j)) ∙ stop_last t out ends p the_last ∙ g.is;
+            is = (λ j. come_to (nodes_of (q j) p.used) (kept j) (s j)) ∙ stop_last t out ends p the_last ∙ g.is;
             room = omega (arith, g.bounds.used, g.bounds.inside);
             few = omega (arith, q, last_place, g.same_ends, last_one p.start p.used);
           }
 
-    module _ (size follow next : ℕ) (e : r ≡ reading.Node size follow next) where
+    module _ (size follow next : ℕ) (e : r ≡ node_read size follow next) where
       the_node : IsNode (told_at t p.at) size follow next
       the_node = is_node (told_at t p.at) size follow next (sym e ∙ read.answer)
 

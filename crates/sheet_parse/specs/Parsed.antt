@@ -5,7 +5,7 @@ use Rattle.laws.specs.Basics.{join, zeros}
 use Rattle.rules.specs.Sheet as rules
 use Rattle.text_numbers.specs.Answers.{written}
 use Rattle.sheet_parse.specs.declared.Sheet as code
-use Rattle.sheet_parse.specs.declared.Sheet.TheVariants as sheet_as
+use Rattle.std.specs.Prelude as std
 
 -- where each datum ends, the first of them beginning at a place
 unfoldable pub totals : ℕ → List (List ℕ) → List ℕ
@@ -17,9 +17,12 @@ unfoldable pub data_in : Option rules.Sheet → List (List ℕ)
 data_in none = []
 data_in (some s) = rules.data_of s
 
-unfoldable pub answer_of : Option rules.Sheet → code.Sheet
-answer_of none = sheet_as.Bad
-answer_of (some s) = sheet_as.Good s.chunk s.slots (length (rules.data_of s))
+abbrev pub sheet_of : ℕ → ℕ → ℕ → std.Option code.Sheet
+sheet_of c s n = std.Some (record { chunk = c; slots = s; count = n })
+
+unfoldable pub answer_of : Option rules.Sheet → std.Option code.Sheet
+answer_of none = std.None
+answer_of (some s) = sheet_of s.chunk s.slots (length (rules.data_of s))
 
 -- the data one behind the other, and the rest as it was; zero for bad text
 unfoldable pub bytes_of : List ℕ → Option rules.Sheet → List ℕ
@@ -33,7 +36,7 @@ ends_of before none = zeros (length before)
 ends_of before (some s) = written before 0 (totals 0 (rules.data_of s))
 
 -- a text was parsed, its data inside the room
-pub record Parsed (text out₀ ends₀ out ends : List ℕ) (r : code.Sheet) : Type 0 where
+pub record Parsed (text out₀ ends₀ out ends : List ℕ) (r : std.Option code.Sheet) : Type 0 where
   pub answer : r ≡ answer_of (rules.sheet text)
   pub bytes : out ≡ bytes_of out₀ (rules.sheet text)
   pub places : ends ≡ ends_of ends₀ (rules.sheet text)

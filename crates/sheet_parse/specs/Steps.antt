@@ -6,13 +6,12 @@ use Rattle.rules.specs.Sheet.{Line, lines, then_read, node_line, node_lines, hea
 use Rattle.text_numbers.specs.Answers.{written}
 use Rattle.sheet_keys.specs.Places.{first_from}
 use Rattle.sheet_parse.specs.declared.Header.{Header}
-use Rattle.sheet_parse.specs.declared.Header.TheVariants as header
 use Rattle.sheet_parse.specs.declared.Front as code
-use Rattle.sheet_parse.specs.declared.Front.TheVariants as front_as
 use Rattle.sheet_parse.specs.declared.Reading.{Reading}
 use Rattle.sheet_parse.specs.declared.Reading.TheVariants as reading
 use Rattle.sheet_parse.specs.declared.Nodes.{Nodes}
-use Rattle.sheet_parse.specs.declared.Nodes.TheVariants as nodes
+use Rattle.std.specs.Prelude as std
+use Rattle.std.specs.Prelude.{Some, None}
 use Rattle.sheet_parse.specs.declared.Progress.{Progress}
 
 -- ---- the header's lines
@@ -31,15 +30,15 @@ unfoldable pub header_at : List ℕ → List ℕ → ℕ → Option Numbered
 unfolding line_number
 header_at key t at = then_read (first_from 10 at (drop at t)) (line_number key t at)
 
-abbrev pub header_told : Header → Option Numbered
-header_told header.Bad = none
-header_told (header.Good n next) = some (record { number = n; next = next })
+abbrev pub header_told : std.Option Header → Option Numbered
+header_told None = none
+header_told (Some h) = some (record { number = h.number; next = h.next })
 
-abbrev pub header_next : Header → ℕ
-header_next header.Bad = 0
-header_next (header.Good n next) = next
+abbrev pub header_next : std.Option Header → ℕ
+header_next None = 0
+header_next (Some h) = h.next
 
-pub record HeaderRead (key t : List ℕ) (at : ℕ) (r : Header) : Type 0 where
+pub record HeaderRead (key t : List ℕ) (at : ℕ) (r : std.Option Header) : Type 0 where
   pub is : header_told r ≡ header_at key t at
   pub inside : header_next r ≤ length t
 
@@ -58,15 +57,15 @@ unfoldable pub front_of : List ℕ → Option Front
 unfolding header_at slots_after
 front_of t = then_read (header_at (ascii "chunk=") t 0) (slots_after t)
 
-abbrev pub front_told : code.Front → Option Front
-front_told front_as.Bad = none
-front_told (front_as.Good c s next) = some (record { chunk = c; slots = s; next = next })
+abbrev pub front_told : std.Option code.Front → Option Front
+front_told None = none
+front_told (Some f) = some (record { chunk = f.chunk; slots = f.slots; next = f.next })
 
-abbrev pub front_next : code.Front → ℕ
-front_next front_as.Bad = 0
-front_next (front_as.Good c s next) = next
+abbrev pub front_next : std.Option code.Front → ℕ
+front_next None = 0
+front_next (Some f) = f.next
 
-pub record FrontRead (t : List ℕ) (r : code.Front) : Type 0 where
+pub record FrontRead (t : List ℕ) (r : std.Option code.Front) : Type 0 where
   pub is : front_told r ≡ front_of t
   pub inside : front_next r ≤ length t
 
@@ -93,10 +92,13 @@ told_at t at =
       | some e ↦ line_told (take (e - at) (drop at t)) (e + 1) (eqb (e + 1) (length t))
     ]
 
-unfoldable pub reading_of : Told → Reading
-reading_of bad = reading.Bad
-reading_of last = reading.Last
-reading_of (node l next) = reading.Node (length l.node) l.follow next
+abbrev pub node_read : ℕ → ℕ → ℕ → std.Option Reading
+node_read size follow next = Some (reading.Node (record { size = size; follow = follow }) next)
+
+unfoldable pub reading_of : Told → std.Option Reading
+reading_of bad = None
+reading_of last = Some reading.Last
+reading_of (node l next) = node_read (length l.node) l.follow next
 
 -- a node's bytes written from a place on
 unfoldable pub read_bytes : List ℕ → ℕ → Told → List ℕ
@@ -104,7 +106,7 @@ read_bytes before at bad = before
 read_bytes before at last = before
 read_bytes before at (node l next) = written before at l.node
 
-pub record LineRead (before : List ℕ) (at : ℕ) (x : Told) (after : List ℕ) (r : Reading) : Type 0 where
+pub record LineRead (before : List ℕ) (at : ℕ) (x : Told) (after : List ℕ) (r : std.Option Reading) : Type 0 where
   pub answer : r ≡ reading_of x
   pub bytes : after ≡ read_bytes before at x
 
@@ -171,33 +173,36 @@ bytes_from ls = join (λ (l : Line). l.node) ls
 
 -- what is answered, and what the two rooms hold
 pub record Outcome : Type 0 where
-  pub answer : Nodes
+  pub answer : std.Option Nodes
   pub bytes : List ℕ
   pub ends : List ℕ
 
-abbrev pub come_to : Nodes → List ℕ → List ℕ → Outcome
+abbrev pub nodes_of : ℕ → ℕ → std.Option Nodes
+nodes_of count used = Some (record { count = count; used = used })
+
+abbrev pub come_to : std.Option Nodes → List ℕ → List ℕ → Outcome
 come_to r out ends = record { answer = r; bytes = out; ends = ends }
 
 -- what a progress comes to with the nodes to come; zero where there is a bad line among them
 unfoldable pub outcome : List ℕ → List ℕ → Progress → Option (List Line) → Outcome
 unfolding ends_from bytes_from
-outcome out ends p none = come_to nodes.Bad (zeros (length out)) (zeros (length ends))
+outcome out ends p none = come_to None (zeros (length out)) (zeros (length ends))
 outcome out ends p (some ls) =
     come_to
-    (nodes.Good (p.count + length (ends_from p.start p.used p.wants ls)) (p.used + length (bytes_from ls)))
+    (nodes_of (p.count + length (ends_from p.start p.used p.wants ls)) (p.used + length (bytes_from ls)))
     (written out p.used (bytes_from ls))
     (written ends p.count (ends_from p.start p.used p.wants ls))
 
-abbrev pub count_of : Nodes → ℕ
-count_of nodes.Bad = 0
-count_of (nodes.Good count used) = count
+abbrev pub count_of : std.Option Nodes → ℕ
+count_of None = 0
+count_of (Some n) = n.count
 
-abbrev pub used_of : Nodes → ℕ
-used_of nodes.Bad = 0
-used_of (nodes.Good count used) = used
+abbrev pub used_of : std.Option Nodes → ℕ
+used_of None = 0
+used_of (Some n) = n.used
 
 -- the lines from a place on were read, inside the room
-pub record NodesRead (t : List ℕ) (from : ℕ) (out₀ ends₀ out ends : List ℕ) (r : Nodes) : Type 0 where
+pub record NodesRead (t : List ℕ) (from : ℕ) (out₀ ends₀ out ends : List ℕ) (r : std.Option Nodes) : Type 0 where
   pub is : come_to r out ends ≡ outcome out₀ ends₀ (begun_at from) (nodes_from t from)
   pub room : used_of r ≤ length out₀
   pub few : count_of r ≤ length ends₀

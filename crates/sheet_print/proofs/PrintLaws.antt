@@ -9,7 +9,6 @@ use lib.Seq.{sets}
 use Rattle.laws.proofs.Writing.{sets_append}
 use Rattle.rules.specs.Numbers.{bits64}
 use Rattle.rules.specs.Text.{decimal}
-use Rattle.leaf_rooms.specs.Rooms.{stored}
 use Rattle.text_numbers.specs.Answers.{Printed, answers}
 use Rattle.text_numbers.proofs.PrintLaws.{length-one, length_more, decimal_short}
 use Rattle.sheet_print.specs.Printing.{most_line, Within}
@@ -17,10 +16,6 @@ use Rattle.sheet_print.specs.Printing.{most_line, Within}
 -- ---- one behind the other
 
 module _ (l : List ℕ) (at : ℕ) where
-  pub text_printed : (t : List ℕ) {after : List ℕ} → after ≡ stored l at t → Printed l at t after (at + length t)
-  unfolding answers stored
-  text_printed t e = record { is = e; end = refl }
-
   pub byte_printed : (x : ℕ) → Printed l at (x ∷ []) (set l at x) (at + 1)
   unfolding answers
   byte_printed x = record { is = refl; end = refl }

@@ -9,25 +9,16 @@ ghost use Rattle.rules.specs.Heap.{capacity, free_count};
 ghost use Rattle.rules.specs.Layout.{heap_of};
 ghost use Rattle.rules.specs.Text.{decimal};
 ghost use Rattle.rules.specs.Listing.{print_line, commas, refusal_line};
-ghost use Rattle.text_numbers.specs.Answers.{Printed};
 ghost use Rattle.heap_sound_rows.specs.Rows.{lists};
 ghost use Rattle.sheet_print.specs.Printing.{most_line, most_free, Within, SoundWords, comma_before, listed, free_text};
 
-// Writes a text from a place on, and answers its end.
-pub fn print_text(t: &[u8], out: &mut [u8], at: usize) -> usize
-    requires { at + length t.now ≤ length out.old }
-    ensures { Printed out.old at t.now out.new result }
-{
-    leaf_rooms::write_bytes(out, at, t);
-    at + t.len()
-}
-
 // A key, and a number.
+// Kept: a text is written at a place and its end answered; a writer over the buffer would name its borrow in each clause beside `Printed`.
 pub fn print_keyed(key: &[u8], n: u64, out: &mut [u8], at: usize) -> usize
     requires { at + length key.now + 20 ≤ length out.old }
     ensures { Within (length key.now + 20) out.old at (key.now ++ decimal n) out.new result }
 {
-    let end = print_text(key, out, at);
+    let end = text_numbers::print_text(key, out, at);
     text_numbers::print_decimal(n, out, end)
 }
 
@@ -38,7 +29,7 @@ fn number_line(key: &[u8], n: u64, out: &mut [u8]) -> usize
     ensures { Within most_line out.old 0 (key.now ++ (decimal n ++ (10 ∷ []))) out.new result }
 {
     let end = print_keyed(key, n, out, 0);
-    out[end] = 10;
+    out[end] = b'\n';
     end + 1
 }
 
@@ -84,7 +75,7 @@ pub fn print_comma(i: usize, out: &mut [u8], at: usize) -> usize
     if i == 0 {
         return at;
     }
-    out[at] = 44;
+    out[at] = b',';
     at + 1
 }
 
@@ -96,11 +87,9 @@ fn print_free(words: &[u64], out: &mut [u8], at: usize) -> usize
 {
     let count = words[2] as usize;
     let mut end = at;
-    let mut i = 0;
-    while i < count {
+    for i in 0..count {
         let next = print_comma(i, out, end);
         end = text_numbers::print_decimal(words[8 * (count - i) + 4], out, next);
-        i += 1;
     }
     end
 }
@@ -111,8 +100,8 @@ pub fn freelist_line(words: &[u64], out: &mut [u8]) -> usize
     requires most_line_in_bounds { most_line ≤ length out.old }
     ensures { (m b e : List ℕ) → Within most_line out.old 0 (print_line (ascii "freelist") (commas (map decimal (heap_of (lists words.now m b e)).free))) out.new result }
 {
-    let start = print_text(b"freelist=", out, 0);
+    let start = text_numbers::print_text(b"freelist=", out, 0);
     let end = print_free(words, out, start);
-    out[end] = 10;
+    out[end] = b'\n';
     end + 1
 }

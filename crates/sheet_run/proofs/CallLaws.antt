@@ -12,7 +12,7 @@ use lib.Seq.{length-take-le, take_at}
 use Rattle.laws.specs.Basics.{both, between}
 use Rattle.laws.proofs.Lists.{length-zeros}
 use Rattle.rules.specs.Numbers.{least_slots, most_slots, most_bytes, most_elements, chunk_allowed}
-use Rattle.rules.specs.Refusals.{Answer, accepted, refused, bad_setup, number_of, refusals}
+use Rattle.rules.specs.Refusals.{Answer, accepted, refused, bad_setup, number_of}
 use Rattle.rules.specs.Heap.{fresh}
 use Rattle.rules.specs.Layout.{Lent, Rooms, rooms_of, heap_of, lent_of, map_bytes, layout_rules}
 use Rattle.rules.specs.Sound.{sound, setup_numbers}
@@ -21,37 +21,36 @@ use Rattle.rules.specs.Calls.{SetUp, setup}
 use Rattle.rules.specs.Listing.{sheet_slots, sheet_rooms, blank, listing, refusal_line, put_each, run_sheet, printed}
 use Rattle.rules.proofs.SoundLaws.{setup_sound, setup_refuses}
 use Rattle.heap_sound_rows.specs.Rows.{lists}
-use Rattle.doors.specs.declared.SetupAnswer.{SetupAnswer}
-use Rattle.doors.specs.declared.SetupAnswer.TheVariants as setups
-use Rattle.doors.specs.Answers.{setup_answer, set_up}
-use Rattle.sheet_parse.specs.Parsed.{Parsed, data_in}
+use Rattle.doors.specs.Answers.{set_up}
+use Rattle.refusals.specs.Told.{answer_of, refusal_of}
+use Rattle.sheet_parse.specs.Parsed.{sheet_of, Parsed, data_in}
 use Rattle.sheet_parse.specs.declared.Sheet.{Sheet}
-use Rattle.sheet_parse.specs.declared.Sheet.TheVariants as sheets
 use Rattle.sheet_parse.proofs.SheetLaws.{bad_sheet, good_sheet, IsSheet}
 use Rattle.sheet_parse.proofs.DatumLaws.{datum_within, datum_is}
-use Rattle.sheet_run.specs.declared.Puts.{Puts}
-use Rattle.sheet_run.specs.declared.Puts.TheVariants as puts
-use Rattle.sheet_run.specs.declared.Ran.TheVariants as ran
+use Rattle.std.specs.Prelude as std
+use Rattle.std.specs.Prelude.{None, Result, Ok, Err}
+use Rattle.refusals.specs.declared.Refusal.{Refusal}
+use Rattle.sheet_run.specs.declared.Refused.TheVariants as refused_as
 use Rattle.sheet_run.specs.Running.{DataAt, Begun, each_put, EachPut, Lends, called, FilledIn, RoomsLent, heap_lent, ran_so, RanSo}
 
 -- ---- setup, then the puts
 
-module _ (chunk : ℕ) (l : Lent) (r : SetupAnswer) (after : Lent) (e : set_up r after ≡ setup chunk l) where
+module _ (chunk : ℕ) (l : Lent) (r : Result (Unit {0}) Refusal) (after : Lent) (e : set_up (answer_of r) after ≡ setup chunk l) where
   abbrev goes : List (List ℕ) → SetUp → List ℕ
   goes ds u = elim u.answer [ accepted x ↦ put_each [] u.lent ds | refused n ↦ refusal_line (number_of n) ]
 
-  called_is : (ds : List (List ℕ)) → called chunk l ds ≡ goes ds (set_up r after)
+  called_is : (ds : List (List ℕ)) → called chunk l ds ≡ goes ds (set_up (answer_of r) after)
   unfolding called
   called_is ds = ap (goes ds) (sym e)
 
-  pub refused_setup : r ≡ setups.BadSetup → (ds : List (List ℕ)) (last : Lent) (count : ℕ) (roots : List ℕ) → FilledIn chunk l ds last count roots (puts.Refused 10)
-  unfolding each_put refusals
-  refused_setup q ds last count roots =
-      record { ends = called_is ds ∙ ap (λ (x : SetupAnswer). goes ds (set_up x after)) q }
+  pub refused_setup : (n : Refusal) → r ≡ Err n → (ds : List (List ℕ)) (last : Lent) (count : ℕ) (roots : List ℕ) → FilledIn chunk l ds last count roots (Err n)
+  unfolding each_put
+  refused_setup n q ds last count roots =
+      record { ends = called_is ds ∙ ap (λ (x : Result (Unit {0}) Refusal). goes ds (set_up (answer_of x) after)) q }
 
-  module _ (q : r ≡ setups.Done) where
+  module _ (q : r ≡ Ok tt) where
     called_done : (ds : List (List ℕ)) → called chunk l ds ≡ put_each [] after ds
-    called_done ds = called_is ds ∙ ap (λ (x : SetupAnswer). goes ds (set_up x after)) q
+    called_done ds = called_is ds ∙ ap (λ (x : Result (Unit {0}) Refusal). goes ds (set_up (answer_of x) after)) q
 
     -- it was accepted by its numbers
     allowed : setup_numbers chunk l ≡ true
@@ -60,7 +59,7 @@ module _ (chunk : ℕ) (l : Lent) (r : SetupAnswer) (after : Lent) (e : set_up r
         by : (b : Bool) → setup_numbers chunk l ≡ b → setup_numbers chunk l ≡ true
         by true p = p
         by false p =
-            let w : ◌≡◌ {A = Answer (Unit {0})} (accepted tt) (refused bad_setup) = ap setup_answer (sym q) ∙ ap (λ (u : SetUp). u.answer) e ∙ (setup_refuses chunk l p).0 in
+            let w : ◌≡◌ {A = Answer (Unit {0})} (accepted tt) (refused bad_setup) = ap answer_of (sym q) ∙ ap (λ (u : SetUp). u.answer) e ∙ (setup_refuses chunk l p).0 in
             let z : ◌≡◌ {A = ℕ} 0 1 = cc in
             absurd (omega arith)
 
@@ -73,7 +72,7 @@ module _ (chunk : ℕ) (l : Lent) (r : SetupAnswer) (after : Lent) (e : set_up r
           clear = k.clear;
         }
 
-    pub filled_in : (ds : List (List ℕ)) (last : Lent) (count : ℕ) (roots : List ℕ) (p : Puts) → EachPut after ds last count roots p → FilledIn chunk l ds last count roots p
+    pub filled_in : (ds : List (List ℕ)) (last : Lent) (count : ℕ) (roots : List ℕ) (p : Result (Unit {0}) Refusal) → EachPut after ds last count roots p → FilledIn chunk l ds last count roots p
     filled_in ds last count roots p x =
         record { ends = subst (λ (t : List ℕ). each_put t last count roots p) (sym (called_done ds)) x.ends }
 
@@ -143,7 +142,7 @@ printed_by : (text : List ℕ) → printed text ≡ by_size text (ltb 32768 (len
 unfolding printed
 printed_by text = refl
 
-pub prints_12 : (text words map bytes elems roots : List ℕ) → 32768 < length text → RanSo text words map bytes elems roots (ran.Refused 12)
+pub prints_12 : (text words map bytes elems roots : List ℕ) → 32768 < length text → RanSo text words map bytes elems roots (Err refused_as.TooLong)
 unfolding ran_so
 prints_12 text words map bytes elems roots long =
     record { is = printed_by text ∙ ap (by_size text) (lt-ltb 32768 (length text) long) }
@@ -152,19 +151,19 @@ module _ (text : List ℕ) (fits : length text ≤ 32768) where
   printed_fits : printed text ≡ by_text (rules.sheet text)
   printed_fits = printed_by text ∙ ap (by_size text) (le-ltb 32768 (length text) fits)
 
-  module _ {out₀ ends₀ out ends : List ℕ} {r : Sheet} (p : Parsed text out₀ ends₀ out ends r) where
-    pub prints_11 : (words map bytes elems roots : List ℕ) → r ≡ sheets.Bad → RanSo text words map bytes elems roots (ran.Refused 11)
+  module _ {out₀ ends₀ out ends : List ℕ} {r : std.Option Sheet} (p : Parsed text out₀ ends₀ out ends r) where
+    pub prints_11 : (words map bytes elems roots : List ℕ) → r ≡ None → RanSo text words map bytes elems roots (Err refused_as.BadText)
     unfolding ran_so
     prints_11 words map bytes elems roots e = record { is = printed_fits ∙ ap by_text (bad_sheet p e) }
 
-    module _ (chunk slots count : ℕ) (e : r ≡ sheets.Good chunk slots count) where
+    module _ (chunk slots count : ℕ) (e : r ≡ sheet_of chunk slots count) where
       pub known : IsSheet text chunk slots count
       known = good_sheet p chunk slots count e
 
       printed_good : printed text ≡ by_slots known.of (ltb sheet_slots known.of.slots)
       printed_good = printed_fits ∙ ap by_text known.is
 
-      pub prints_10 : (words map bytes elems roots : List ℕ) → 192 < slots → RanSo text words map bytes elems roots (ran.Refused 10)
+      pub prints_10 : (words map bytes elems roots : List ℕ) → 192 < slots → RanSo text words map bytes elems roots (Err refused_as.TooManySlots)
       unfolding ran_so
       prints_10 words map bytes elems roots many =
           record {
@@ -227,15 +226,15 @@ module _ (text : List ℕ) (fits : length text ≤ 32768) where
                 clear = k.clear;
               }
 
-          module _ (after : Lent) (kept : List ℕ) (x : Puts) (f : FilledIn chunk lent (rules.data_of known.of) after count kept x) where
-            pub prints_refusal : (n : ℕ) (ws ms bs es : List ℕ) → x ≡ puts.Refused n → RanSo text ws ms bs es kept (ran.Refused n)
+          module _ (after : Lent) (kept : List ℕ) (x : Result (Unit {0}) Refusal) (f : FilledIn chunk lent (rules.data_of known.of) after count kept x) where
+            pub prints_refusal : (n : Refusal) (ws ms bs es : List ℕ) → x ≡ Err n → RanSo text ws ms bs es kept (Err (refused_as.ByCall n))
             unfolding ran_so each_put
             prints_refusal n ws ms bs es q =
                 record {
                   is = printed_called lent alike ∙ subst (each_put (called chunk lent (rules.data_of known.of)) after count kept) q f.ends;
                 }
 
-            pub prints_listing : (ws ms bs es : List ℕ) → x ≡ puts.Done → heap_lent slots ws ms bs es ≡ after → count ≤ length kept → RanSo text ws ms bs es kept (ran.Listed slots count)
+            pub prints_listing : (ws ms bs es : List ℕ) → x ≡ Ok tt → heap_lent slots ws ms bs es ≡ after → count ≤ length kept → RanSo text ws ms bs es kept (Ok (record { slots = slots; count = count }))
             unfolding ran_so each_put
             prints_listing ws ms bs es q h room =
                 let g = subst (each_put (called chunk lent (rules.data_of known.of)) after count kept) q f.ends in

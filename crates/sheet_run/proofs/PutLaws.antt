@@ -1,5 +1,5 @@
 -- One datum after the other is put. Assumes nothing.
-use mathlib.Core.Path.{◌≡◌, refl, sym, ap, ◌∙◌, subst}
+use mathlib.Core.Path.{◌≡◌, refl, sym, ap, ◌∙◌}
 use mathlib.Core.Bool.{true, not}
 use mathlib.Core.List.{List, [], ◌∷◌, ◌++◌}
 use Prim.Native.Nat.{ℕ, zero, suc, ◌+◌, ◌-◌, ◌≤◌, ◌<◌}
@@ -13,7 +13,7 @@ use Rattle.laws.proofs.Tests.{every_take, every_drop}
 use Rattle.laws.proofs.Lists.{length-zeros}
 use Rattle.laws.proofs.Bytes.{all_bytes}
 use Rattle.rules.specs.Numbers.{scratch_words}
-use Rattle.rules.specs.Refusals.{Refusal, bad_setup, unsound, short_scratch, malformed, over_limit, early_label, no_such_slot, wrong_cell, no_slots, no_room, short_output, Answer, accepted, refused, told, number_of, ◌⇒◌, refusals}
+use Rattle.rules.specs.Refusals.{unsound, short_scratch, malformed, over_limit, early_label, no_slots, no_room, Answer, accepted, refused, number_of, ◌⇒◌}
 use Rattle.rules.specs.Nodes.{nodes_rules}
 use Rattle.rules.specs.Datum.{Datum, Parse, good, bad, parse, within_limits, early_reference}
 use Rattle.rules.specs.Heap.{capacity}
@@ -25,56 +25,11 @@ use Rattle.rules.specs.Listing.{sheet_slots, refusal_line, put_each}
 use Rattle.rules.proofs.GoodSound.{unless_keeps}
 use Rattle.rules.proofs.PutSound.{PutLeft, accepts, refuses, put_left}
 use Rattle.leaf_nodes.proofs.Laws.{all_small}
-use Rattle.doors.specs.declared.PutAnswer.{PutAnswer}
-use Rattle.doors.specs.declared.PutAnswer.TheVariants as puts
-use Rattle.doors.specs.Answers.{put_answer}
+use Rattle.std.specs.Prelude.{Ok, Err}
+use Rattle.refusals.specs.declared.Refusal as code
+use Rattle.refusals.specs.Told.{refusal_of}
 use Rattle.sheet_parse.specs.Parsed.{place_before, part_of}
-use Rattle.sheet_run.specs.declared.Puts.TheVariants as done
-use Rattle.sheet_run.specs.Running.{slot_answered, DataAt, Begun, each_put, EachPut}
-
--- ---- the number that is told
-
-abbrev pub number_told : PutAnswer → ℕ
-number_told (puts.Slot s) = 0
-number_told puts.Unsound = 20
-number_told puts.ShortScratch = 19
-number_told (puts.Malformed f n) = 11
-number_told puts.OverLimit = 12
-number_told puts.EarlyLabel = 13
-number_told puts.NoSlots = 16
-number_told puts.NoRoom = 17
-
-pub number_is : (a : PutAnswer) → number_told a ≡ told (put_answer a)
-unfolding refusals
-number_is (puts.Slot s) = refl
-number_is puts.Unsound = refl
-number_is puts.ShortScratch = refl
-number_is (puts.Malformed f n) = refl
-number_is puts.OverLimit = refl
-number_is puts.EarlyLabel = refl
-number_is puts.NoSlots = refl
-number_is puts.NoRoom = refl
-
--- a refusal's number is not 0
-some_number : (r : Refusal) → number_of r ≡ 0 → ⊥
-unfolding refusals
-some_number bad_setup e = omega (arith, e)
-some_number unsound e = omega (arith, e)
-some_number short_scratch e = omega (arith, e)
-some_number (malformed f n) e = omega (arith, e)
-some_number over_limit e = omega (arith, e)
-some_number early_label e = omega (arith, e)
-some_number no_such_slot e = omega (arith, e)
-some_number wrong_cell e = omega (arith, e)
-some_number no_slots e = omega (arith, e)
-some_number no_room e = omega (arith, e)
-some_number short_output e = omega (arith, e)
-
--- told 0 is accepted
-accepts_told : (a : Answer ℕ) → told a ≡ 0 → a ≡ accepted (slot_answered a)
-unfolding refusals
-accepts_told (accepted s) e = refl
-accepts_told (refused r) e = absurd (some_number r e)
+use Rattle.sheet_run.specs.Running.{DataAt, Begun, each_put, EachPut}
 
 -- ---- what a put leaves in the scratch
 
@@ -129,11 +84,6 @@ put_next : (rs : List ℕ) (l : Lent) (d : List ℕ) (ds : List (List ℕ)) → 
 unfolding put_each next
 put_next rs l d ds = refl
 
-refused_next : (rs : List ℕ) (ds : List (List ℕ)) (a : Answer ℕ) (l : Lent) (scratch : List ℕ) → (told a ≡ 0 → ⊥) → next rs ds (left a l scratch) ≡ refusal_line (told a)
-unfolding next refusals
-refused_next rs ds (accepted s) l scratch e = absurd (e refl)
-refused_next rs ds (refused r) l scratch e = refl
-
 pub record Going (l₀ : Lent) (nodes ends : List ℕ) (count i : ℕ) (l : Lent) (scratch roots : List ℕ) : Type 0 where
   pub within : i ≤ count
   pub begun : Begun l scratch
@@ -144,13 +94,13 @@ pub going_begins : (l : Lent) (nodes ends : List ℕ) (count : ℕ) (scratch roo
 going_begins l nodes ends count scratch roots b r =
     record { within = omega arith; begun = b; room = r; same = λ ds at. refl }
 
-module _ (l₀ : Lent) (nodes ends : List ℕ) (count i : ℕ) (l : Lent) (scratch roots : List ℕ) (g : Going l₀ nodes ends count i l scratch roots) (more : i < count) (datum : List ℕ) (is : datum ≡ part_of nodes ends i) (small : (k : ℕ) → get_or nodes k 0 < 256) (a : PutAnswer) (after : Lent) (end : List ℕ) (e : left (put_answer a) after end ≡ put_call l scratch datum) where
+module _ (l₀ : Lent) (nodes ends : List ℕ) (count i : ℕ) (l : Lent) (scratch roots : List ℕ) (g : Going l₀ nodes ends count i l scratch roots) (more : i < count) (datum : List ℕ) (is : datum ≡ part_of nodes ends i) (small : (k : ℕ) → get_or nodes k 0 < 256) (a : Answer ℕ) (after : Lent) (end : List ℕ) (e : left a after end ≡ put_call l scratch datum) where
   -- the data from here on
   rest : (ds : List (List ℕ)) → DataAt nodes ends count ds → drop i ds ≡ datum ∷ drop (suc i) ds
   rest ds at =
       drop-cons ds i [] (omega (arith, at.many)) ∙ ap (λ (d : List ℕ). d ∷ drop (suc i) ds) (sym (at.is i more) ∙ sym is)
 
-  prints : (ds : List (List ℕ)) → DataAt nodes ends count ds → put_each [] l₀ ds ≡ next (take i roots) (drop (suc i) ds) (left (put_answer a) after end)
+  prints : (ds : List (List ℕ)) → DataAt nodes ends count ds → put_each [] l₀ ds ≡ next (take i roots) (drop (suc i) ds) (left a after end)
   prints ds at =
       g.same ds at
       ∙ ap (put_each (take i roots) l) (rest ds at)
@@ -158,20 +108,13 @@ module _ (l₀ : Lent) (nodes ends : List ℕ) (count i : ℕ) (l : Lent) (scrat
       ∙ ap (λ (t : List ℕ). next (take i roots) (drop (suc i) ds) (put_call l t datum)) (sym g.begun.clear)
       ∙ ap (next (take i roots) (drop (suc i) ds)) (sym e)
 
-  stops_told : (told (put_answer a) ≡ 0 → ⊥) → (ds : List (List ℕ)) → DataAt nodes ends count ds → EachPut l₀ ds after count roots (done.Refused (told (put_answer a)))
-  unfolding each_put
-  stops_told r ds at = record { ends = prints ds at ∙ refused_next (take i roots) (drop (suc i) ds) (put_answer a) after end r }
+  pub stops : (r : code.Refusal) → refused (refusal_of r) ≡ a → (ds : List (List ℕ)) → DataAt nodes ends count ds → EachPut l₀ ds after count roots (Err r)
+  unfolding each_put next
+  stops r q ds at = record { ends = prints ds at ∙ ap (λ (x : Answer ℕ). next (take i roots) (drop (suc i) ds) (left x after end)) (sym q) }
 
-  pub stops : (n : ℕ) → n ≡ told (put_answer a) → (n ≡ 0 → ⊥) → (ds : List (List ℕ)) → DataAt nodes ends count ds → EachPut l₀ ds after count roots (done.Refused n)
-  stops n q r ds at =
-      subst (λ (k : ℕ). EachPut l₀ ds after count roots (done.Refused k)) (sym q) (stops_told (λ z. r (q ∙ z)) ds at)
-
-  module _ (z : told (put_answer a) ≡ 0) where
-    abbrev s : ℕ
-    s = slot_answered (put_answer a)
-
-    took : put_answer a ≡ accepted s
-    took = accepts_told (put_answer a) z
+  module _ (s : ℕ) (z : accepted s ≡ a) where
+    took : a ≡ accepted s
+    took = sym z
 
     answered : (put_call l scratch datum).answer ≡ accepted s
     answered = ap (λ (x : Left ℕ). x.answer) (sym e) ∙ took
@@ -210,17 +153,16 @@ module _ (l₀ : Lent) (nodes ends : List ℕ) (count i : ℕ) (l : Lent) (scrat
         ∙ ap (λ (rs : List ℕ). put_each rs after (drop (suc i) ds)) (sym (take-suc-set roots i s (omega (arith, g.room))))
         ∙ ap (λ (n : ℕ). put_each (take n (set roots i s)) after (drop n ds)) (sym (add-one i))
 
-    pub goes_on : (n : ℕ) (kept : List ℕ) → n ≡ s → kept ≡ set roots i n → Going l₀ nodes ends count (i + 1) after end kept
-    goes_on n kept q e =
-        subst (Going l₀ nodes ends count (i + 1) after end) (sym (e ∙ ap (set roots i) q))
-        (record {
+    pub goes_on : Going l₀ nodes ends count (i + 1) after end (set roots i s)
+    goes_on =
+        record {
           within = omega arith;
           begun = begun_on;
           room = omega (arith, g.room, length-set roots i s);
           same = taken_on;
-        })
+        }
 
-pub ends_put : (l₀ : Lent) (nodes ends : List ℕ) (count i : ℕ) (l : Lent) (scratch roots : List ℕ) → Going l₀ nodes ends count i l scratch roots → count ≤ i → (ds : List (List ℕ)) → DataAt nodes ends count ds → EachPut l₀ ds l count roots done.Done
+pub ends_put : (l₀ : Lent) (nodes ends : List ℕ) (count i : ℕ) (l : Lent) (scratch roots : List ℕ) → Going l₀ nodes ends count i l scratch roots → count ≤ i → (ds : List (List ℕ)) → DataAt nodes ends count ds → EachPut l₀ ds l count roots (Ok tt)
 unfolding each_put put_each
 ends_put l₀ nodes ends count i l scratch roots g past ds at =
     let all : i ≡ count = omega (arith, g.within) in

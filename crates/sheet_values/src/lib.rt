@@ -16,7 +16,7 @@ fn print_number(n: u64, out: &mut [u8], at: usize) -> usize
     requires { at + 24 ≤ length out.old }
     ensures { Within 24 out.old at (ascii "num:" ++ signed n) out.new result }
 {
-    let end = sheet_print::print_text(b"num:", out, at);
+    let end = text_numbers::print_text(b"num:", out, at);
     text_numbers::print_signed(n, out, end)
 }
 
@@ -27,11 +27,11 @@ pub fn print_value(v: Value, out: &mut [u8], at: usize) -> usize
 {
     match v {
         Value::Slot(s) => sheet_print::print_keyed(b"@", s as u64, out, at),
-        Value::Undefined => sheet_print::print_text(b"undef", out, at),
-        Value::Nil => sheet_print::print_text(b"nil", out, at),
-        Value::Eof => sheet_print::print_text(b"eof", out, at),
-        Value::Void => sheet_print::print_text(b"void", out, at),
-        Value::Bool(b) => sheet_print::print_keyed(b"bool:", b as u64, out, at),
+        Value::Undefined => text_numbers::print_text(b"undef", out, at),
+        Value::Nil => text_numbers::print_text(b"nil", out, at),
+        Value::Eof => text_numbers::print_text(b"eof", out, at),
+        Value::Void => text_numbers::print_text(b"void", out, at),
+        Value::Bool(b) => sheet_print::print_keyed(b"bool:", u64::from(b), out, at),
         Value::Char(n) => sheet_print::print_keyed(b"char:", n, out, at),
         Value::Number(n) => print_number(n, out, at),
     }

@@ -1,23 +1,23 @@
 -- Decimals, digit by digit. Assumes nothing.
 use mathlib.Core.Path.{◌≡◌, refl, sym, ap, ◌∙◌}
-use mathlib.Core.Bool.{Bool, true, false}
+use mathlib.Core.Bool.{Bool, true, false, ◌&&◌, true≢false}
 use mathlib.Core.List.{List, [], ◌∷◌}
 use mathlib.Core.Option.{Option, none, some}
+use Rattle.std.specs.Prelude as std
+use Rattle.std.specs.Prelude.{Some, None, unwrap_or}
 use Prim.Native.Nat.{ℕ, zero, suc, ◌+◌, ◌-◌, ◌*◌, ◌≤◌, ◌<◌}
 use native.Mathlib.Numerals.{add-one}
 use native.Mathlib.Omega.{arith}
-use borrow.Author.Tests.{le-leb, lt-leb, leb-true, eq-eqb, ne_eqb}
-use lib.Dec.{leb}
+use borrow.Author.Tests.{le-leb, lt-leb, leb-true, eq-eqb, ne_eqb, eqb-true}
+use lib.Dec.{leb, eqb}
+use lib.Pointwise.{pointwise}
 use lib.ListN.{length, get_or, take, drop, drop_of_length-le}
 use lib.Seq.{drop-cons}
 use Rattle.laws.specs.Basics.{choose}
-use Rattle.laws.proofs.Writing.{to_end}
 use Rattle.laws.proofs.Options.{none_some}
 use Rattle.rules.specs.Numbers.{bits32, bits64}
 use Rattle.rules.specs.Text.{digit_value, number_from, natural, at_most, unsigned32, negative, signed64, text_rules}
-use Rattle.text_decimals.specs.declared.Number.{Number}
-use Rattle.text_decimals.specs.declared.Number.TheVariants.{Bad, Good}
-use Rattle.text_decimals.specs.Reads.{shown, rest, amount, Step}
+use Rattle.text_decimals.specs.Reads.{shown, rest, Step}
 
 -- ---- at most
 
@@ -45,15 +45,15 @@ unsigned32_small t n e = omega (arith, most_small (bits32 - 1) n (natural t) e)
 
 -- ---- one digit more
 
-no_low : (c : ℕ) → c < 48 → digit_value c ≡ none
+pub no_low : (c : ℕ) → c < 48 → digit_value c ≡ none
 unfolding text_rules
 no_low c h = rw (lt-leb 48 c h)
 
-no_high : (c : ℕ) → 48 ≤ c → 57 < c → digit_value c ≡ none
+pub no_high : (c : ℕ) → 48 ≤ c → 57 < c → digit_value c ≡ none
 unfolding text_rules
 no_high c l h = rw (le-leb 48 c l, lt-leb c 57 h)
 
-a_digit : (c : ℕ) → 48 ≤ c → c ≤ 57 → digit_value c ≡ some (c - 48)
+pub a_digit : (c : ℕ) → 48 ≤ c → c ≤ 57 → digit_value c ≡ some (c - 48)
 unfolding text_rules
 a_digit c l h = rw (le-leb 48 c l, le-leb c 57 h)
 
@@ -76,32 +76,26 @@ stays most n (c ∷ cs) h = by (digit_value c) (λ d. stays most (10 * n + d) cs
     by (some d) again = again d
 
 module _ (most n c : ℕ) where
-  steps : (o : Option ℕ) (r : Number) → digit_value c ≡ o → ((cs : List ℕ) → at_most most (after n cs o) ≡ rest most r cs) → (cs : List ℕ) → at_most most (number_from n (c ∷ cs)) ≡ rest most r cs
+  steps : (o : Option ℕ) (r : std.Option ℕ) → digit_value c ≡ o → ((cs : List ℕ) → at_most most (after n cs o) ≡ rest most r cs) → (cs : List ℕ) → at_most most (number_from n (c ∷ cs)) ≡ rest most r cs
   steps o r e p cs = ap (at_most most) (from_digit n c cs ∙ ap (after n cs) e) ∙ p cs
 
-  bad : digit_value c ≡ none → Step most n c Bad
+  pub step_bad : none ≡ digit_value c → Step most n c None
   unfolding after text_rules rest
-  bad e = record { is = steps none Bad e (λ cs. refl); small = omega arith }
+  step_bad e = record { is = steps none None (sym e) (λ cs. refl); small = omega arith }
 
-  pub step_low : c < 48 → Step most n c Bad
-  step_low h = bad (no_low c h)
-
-  pub step_high : 48 ≤ c → 57 < c → Step most n c Bad
-  step_high l h = bad (no_high c l h)
-
-  pub step_past : 48 ≤ c → c ≤ 57 → most < 10 * n + (c - 48) → Step most n c Bad
+  pub step_past : (d : ℕ) → some d ≡ digit_value c → most < 10 * n + d → Step most n c None
   unfolding after rest
-  step_past l h p =
+  step_past d e p =
       record {
-        is = steps (some (c - 48)) Bad (a_digit c l h) (λ cs. stays most (10 * n + (c - 48)) cs p);
+        is = steps (some d) None (sym e) (λ cs. stays most (10 * n + d) cs p);
         small = omega arith;
       }
 
-  pub step_good : (m : ℕ) → 48 ≤ c → c ≤ 57 → m ≡ 10 * n + (c - 48) → m ≤ most → Step most n c (Good m)
+  pub step_good : (d m : ℕ) → some d ≡ digit_value c → m ≡ 10 * n + d → m ≤ most → Step most n c (Some m)
   unfolding after rest
-  step_good m l h e s =
+  step_good d m e q s =
       record {
-        is = steps (some (c - 48)) (Good m) (a_digit c l h) (λ cs. ap (λ (k : ℕ). at_most most (number_from k cs)) (sym e));
+        is = steps (some d) (Some m) (sym e) (λ cs. ap (λ (k : ℕ). at_most most (number_from k cs)) (sym q));
         small = s;
       }
 
@@ -112,20 +106,20 @@ module _ (most : ℕ) (t : List ℕ) where
   abbrev pub SoFar : ℕ → ℕ → Type 0
   SoFar n i = at_most most (number_from 0 t) ≡ at_most most (number_from n (drop i t))
 
-  module _ (n i : ℕ) (now : SoFar n i) (h : i < length t) (r : Number) (s : Step most n (get_or t i 0) r) where
+  module _ (n i : ℕ) (now : SoFar n i) (h : i < length t) (r : std.Option ℕ) (s : Step most n (get_or t i 0) r) where
     turn : at_most most (number_from 0 t) ≡ rest most r (drop (i + 1) t)
     turn = now ∙ (rw (add-one, drop-cons t i 0) (s.is (drop (suc i) t)))
 
-    pub stops : r ≡ Bad → none ≡ at_most most (number_from 0 t)
+    pub stops : r ≡ None → none ≡ at_most most (number_from 0 t)
     unfolding rest
-    stops e = sym (turn ∙ ap (λ (r : Number). rest most r (drop (i + 1) t)) e)
+    stops e = sym (turn ∙ ap (λ (r : std.Option ℕ). rest most r (drop (i + 1) t)) e)
 
-    pub bounded : (m : ℕ) → r ≡ Good m → m ≤ most
-    bounded m e = omega (arith, s.small, ap amount e)
+    pub bounded : (m : ℕ) → r ≡ Some m → m ≤ most
+    bounded m e = omega (arith, s.small, ap (λ (r : std.Option ℕ). unwrap_or r 0) e)
 
-    pub goes_on : (m : ℕ) → r ≡ Good m → SoFar m (i + 1)
+    pub goes_on : (m : ℕ) → r ≡ Some m → SoFar m (i + 1)
     unfolding rest
-    goes_on m e = turn ∙ ap (λ (r : Number). rest most r (drop (i + 1) t)) e
+    goes_on m e = turn ∙ ap (λ (r : std.Option ℕ). rest most r (drop (i + 1) t)) e
 
   pub ends : (n i : ℕ) → SoFar n i → n ≤ most → length t ≤ i → some n ≡ at_most most (number_from 0 t)
   unfolding text_rules
@@ -161,45 +155,37 @@ module _ (most : ℕ) where
 
 -- ---- signed
 
-pub not_read : (n : Number) → n ≡ Bad → none ≡ negative (shown n)
+pub no_zero : (m : ℕ) → m ≡ 0 → none ≡ negative (some m)
 unfolding text_rules
-not_read n e = sym (ap (λ (n : Number). negative (shown n)) e)
+no_zero m z = sym (ap (λ (m : ℕ). negative (some m)) z)
 
-pub no_zero : (n : Number) (m : ℕ) → n ≡ Good m → m ≡ 0 → none ≡ negative (shown n)
+pub negated : (m k : ℕ) → (m ≡ 0 → ⊥) → k ≡ bits64 - m → some k ≡ negative (some m)
 unfolding text_rules
-no_zero n m e z = sym (ap (λ (n : Number). negative (shown n)) e ∙ ap (λ (m : ℕ). negative (some m)) z)
+negated zero k d s = absurd (d refl)
+negated (suc m) k d s = ap (λ (k : ℕ). some k) s
 
-less : (m : ℕ) → (m ≡ 0 → ⊥) → some (bits64 - m) ≡ negative (some m)
+signed_minus : (cs : List ℕ) → negative (at_most 0x8000_0000_0000_0000 (natural cs)) ≡ signed64 (45 ∷ cs)
 unfolding text_rules
-less zero d = absurd (d refl)
-less (suc m) d = refl
+signed_minus cs = refl
 
-pub negated : (n : Number) (m k : ℕ) → n ≡ Good m → (m ≡ 0 → ⊥) → k ≡ bits64 - m → some k ≡ negative (shown n)
-negated n m k e d s = ap (λ (k : ℕ). some k) s ∙ less m d ∙ ap (λ (n : Number). negative (shown n)) (sym e)
+-- what follows a minus
+pub signed_by : (t rest : List ℕ) (r : std.Option ℕ) → pointwise eqb (take 1 t) (45 ∷ []) ≡ true → rest ≡ drop 1 t → shown r ≡ at_most 0x8000_0000_0000_0000 (natural rest) → negative (shown r) ≡ signed64 t
+signed_by [] rest r h e q = absurd (true≢false (sym h))
+signed_by (c ∷ cs) rest r h e q =
+    let m : c ≡ 45 = eqb-true c 45 (by (eqb c 45) h) in
+    ap negative (q ∙ ap (λ (l : List ℕ). at_most 0x8000_0000_0000_0000 (natural l)) e)
+    ∙ signed_minus cs ∙ ap (λ (n : ℕ). signed64 (n ∷ cs)) (sym m)
+  where
+    by : (b : Bool) → (b && true) ≡ true → b ≡ true
+    by true e = refl
+    by false e = e
 
-pub signed_none : (t : List ℕ) → length t ≡ 0 → none ≡ signed64 t
+-- no minus
+pub signed_plain : (t : List ℕ) → pointwise eqb (take 1 t) (45 ∷ []) ≡ false → at_most 0x7fff_ffff_ffff_ffff (natural t) ≡ signed64 t
 unfolding text_rules
-signed_none [] h = refl
-signed_none (c ∷ cs) h = absurd (omega arith)
-
-signed_minus : (t : List ℕ) → 1 ≤ length t → get_or t 0 0 ≡ 45 → negative (at_most 0x8000_0000_0000_0000 (natural (drop 1 t))) ≡ signed64 t
-unfolding text_rules
-signed_minus [] h e = absurd (omega arith)
-signed_minus (c ∷ cs) h e =
-    sym
-    (ap
-    (λ (b : Bool). elim b [ true ↦ negative (at_most 0x8000_0000_0000_0000 (natural cs)) | false ↦ at_most 0x7fff_ffff_ffff_ffff (natural (c ∷ cs)) ])
-    (eq-eqb c 45 e))
-
-pub signed_by : (t : List ℕ) (n r : Number) → 1 ≤ length t → get_or t 0 0 ≡ 45 → shown n ≡ at_most 0x8000_0000_0000_0000 (natural (take (length t - 1) (drop 1 t))) → shown r ≡ negative (shown n) → shown r ≡ signed64 t
-signed_by t n r h e p q =
-    q ∙ ap negative (p ∙ ap (λ (l : List ℕ). at_most 0x8000_0000_0000_0000 (natural l)) (to_end t 1)) ∙ signed_minus t h e
-
-pub signed_plain : (t : List ℕ) → 1 ≤ length t → (get_or t 0 0 ≡ 45 → ⊥) → at_most 0x7fff_ffff_ffff_ffff (natural t) ≡ signed64 t
-unfolding text_rules
-signed_plain [] h e = absurd (omega arith)
-signed_plain (c ∷ cs) h e =
-    sym
-    (ap
-    (λ (b : Bool). elim b [ true ↦ negative (at_most 0x8000_0000_0000_0000 (natural cs)) | false ↦ at_most 0x7fff_ffff_ffff_ffff (natural (c ∷ cs)) ])
-    (ne_eqb c 45 e))
+signed_plain [] h = refl
+signed_plain (c ∷ cs) h = by (eqb c 45) h
+  where
+    by : (b : Bool) → (b && true) ≡ false → at_most 0x7fff_ffff_ffff_ffff (natural (c ∷ cs)) ≡ elim b [ true ↦ negative (at_most 0x8000_0000_0000_0000 (natural cs)) | false ↦ at_most 0x7fff_ffff_ffff_ffff (natural (c ∷ cs)) ]
+    by true e = absurd (true≢false e)
+    by false e = refl

@@ -6,23 +6,32 @@ use Prim.Native.Nat.{ℕ, zero, suc, ◌+◌, ◌-◌, ◌*◌, ◌/◌, ◌%◌
 use native.Mathlib.Decide.{dec_lt}
 use native.Mathlib.Nat.{pow-suc}
 use native.Mathlib.Omega.{arith}
-use borrow.Author.Tests.{lt-ltb, le-ltb}
+use borrow.Author.Tests.{lt-ltb, le-ltb, ltb-true, ltb-false}
 use lib.Dec.{ltb}
 use lib.ListN.{length, get_or, set, drop, length-append, drop_of_length-le}
 use lib.Seq.{sets, drop-cons}
 use Rattle.laws.specs.Basics.{choose, basics}
-use Rattle.laws.proofs.Writing.{sets_last}
 use Rattle.rules.specs.Numbers.{bits64}
 use Rattle.rules.specs.Text.{digit, digits_before, decimal, signed, hex, text_rules}
+use Rattle.std.specs.Fmt as std
+use Rattle.std.specs.Int.{cast_signed}
+use Rattle.std.specs.Prelude.{ℤ, pos, negsuc}
+use mir.Val.{sel, of_z}
+use Rattle.std.proofs.lemmas.Int.{to_z_pos, of_z-to_z}
+use Rattle.std.proofs.Common.{w64}
+use Rattle.std.proofs.lemmas.Fmt.{decimal_by_steps}
+use Rattle.std.proofs.lemmas.List.Edits.{sets-eq, paste_all}
+use Rattle.std.proofs.lemmas.Slice.{put_mid-paste}
+use borrow.Rule.Slice.PartMut.{put_mid}
 use Rattle.text_numbers.specs.Answers.{written, Printed, answers}
 
 -- ---- digits
 
-pub digit_low : (n : ℕ) → n < 10 → digit n ≡ n + 48
+pub digit_low : (n : ℕ) → n < 10 → digit n ≡ 48 + n
 unfolding text_rules
-digit_low n h = ap (λ (b : Bool). choose b (48 + n) (87 + n)) (lt-ltb n 10 h) ∙ omega arith
+digit_low n h = ap (λ (b : Bool). choose b (48 + n) (87 + n)) (lt-ltb n 10 h)
 
-pub digit_high : (n : ℕ) → 10 ≤ n → digit n ≡ n + 87
+pub digit_high : (n : ℕ) → 10 ≤ n → digit n ≡ 97 + (n - 10)
 unfolding text_rules
 digit_high n h = ap (λ (b : Bool). choose b (48 + n) (87 + n)) (le-ltb n 10 h) ∙ omega arith
 
@@ -78,36 +87,6 @@ length-one n h = ap length (decimal_one n h)
 pub length_more : (n : ℕ) → 10 ≤ n → length (decimal n) ≡ length (decimal (n / 10)) + 1
 length_more n h = ap length (decimal_more n h) ∙ length-append (decimal (n / 10)) (digit (n % 10) ∷ [])
 
--- w digits were counted, and m is left: it has room in twenty
-pub record Counted (n m w : ℕ) : Type 0 where
-  pub is : length (decimal n) + 1 ≡ w + length (decimal m)
-  pub some : 1 ≤ w
-  pub most : w ≤ 20
-  pub left : m < 10 ^ (21 - w)
-
-pub count_first : (n : ℕ) → n < bits64 → Counted n n 1
-count_first n h =
-    let e : 10 ^ 20 ≡ 100000000000000000000 = refl in
-    record { is = omega arith; some = omega arith; most = omega arith; left = omega (arith, e) }
-
-pub count_next : (n m w : ℕ) → Counted n m w → 10 ≤ m → Counted n (m / 10) (w + 1)
-count_next n m w c h =
-    let less : w < 20 =
-    elim (dec_lt w 20) [
-      | yes k ↦ k
-      | no k ↦
-          let e : 21 - w ≡ 1 = omega (arith, c.most) in
-          let p : m < 10 = subst (λ (k : ℕ). m < 10 ^ k) e c.left in
-          absurd (omega arith)
-    ]
-    in
-    let e : 21 - w ≡ suc (21 - (w + 1)) = omega arith in
-    let p : m < 10 ^ (21 - (w + 1)) * 10 = subst (λ (k : ℕ). m < k) (pow-suc 10 (21 - (w + 1))) (subst (λ (k : ℕ). m < 10 ^ k) e c.left) in
-    record { is = omega (arith, c.is, length_more m h); some = omega arith; most = omega arith; left = omega arith }
-
-pub count_last : (n m w : ℕ) → Counted n m w → m < 10 → w ≡ length (decimal n)
-count_last n m w c h = omega (arith, c.is, length-one m h)
-
 -- a number of 64 bits has at most 20 digits, and with its minus at most 20 characters
 short : (d n : ℕ) → n < 10 ^ suc d → length (decimal n) ≤ suc d
 short zero n h = omega (arith, length-one n h)
@@ -122,23 +101,17 @@ short (suc d) n h =
 pub decimal_short : (n : ℕ) → n < bits64 → length (decimal n) ≤ 20
 decimal_short n h = let e : 10 ^ 20 ≡ 100000000000000000000 = refl in short 19 n (omega (arith, e))
 
--- ---- written, the last first
+-- ---- std's digits
 
-pub one_at_least : (n : ℕ) → 1 ≤ length (decimal n)
-one_at_least n =
-    elim (dec_lt n 10) [ yes k ↦ omega (arith, length-one n k) | no k ↦ omega (arith, length_more n (omega arith)) ]
-
-pub last_written : (l : List ℕ) (at n i x : ℕ) → 10 ≤ n → i ≡ at + length (decimal n) → x ≡ n % 10 + 48 → written (set l (i - 1) x) at (decimal (n / 10)) ≡ written l at (decimal n)
-unfolding answers
-last_written l at n i x h e q =
-    let place : i - 1 ≡ at + length (decimal (n / 10)) = omega (arith, length_more n h) in
-    let value : x ≡ digit (n % 10) = q ∙ sym (digit_low (n % 10) (omega arith)) in
-    (λ j. sets (set l (place j) (value j)) at (decimal (n / 10)))
-    ∙ sets_last l at (decimal (n / 10)) (digit (n % 10)) ∙ ap (sets l at) (sym (decimal_more n h))
-
-pub first_written : (l : List ℕ) (at n x : ℕ) → n < 10 → x ≡ n + 48 → set l at x ≡ written l at (decimal n)
-unfolding answers
-first_written l at n x h q = ap (set l at) (q ∙ sym (digit_low n h)) ∙ ap (sets l at) (sym (decimal_one n h))
+pub std_decimal : (n : ℕ) → n < bits64 → std.decimal n ≡ decimal n
+std_decimal n h =
+    decimal_by_steps
+    (λ n ds. ds ≡ decimal n)
+    (λ n k. sym (decimal_one n k ∙ ap (λ (d : ℕ). d ∷ []) (digit_low n k)))
+    (λ n ds k e.
+    sym (decimal_more n k ∙ (λ j. sym e j ++ (digit_low (n % 10) (omega arith) j ∷ []))))
+    n
+    h
 
 -- ---- signed
 
@@ -164,20 +137,42 @@ length_minus n h k =
     let e : bits64 - n ≡ 18446744073709551615 - n + 1 = omega arith in
     ap length (signed_high n h) ∙ ap (λ (k : ℕ). suc (length (decimal k))) e ∙ omega arith
 
-module _ {l after : List ℕ} {at n r : ℕ} where
-  pub plain_printed : n < 0x8000_0000_0000_0000 → Printed l at (decimal n) after r → Printed l at (signed n) after r
-  plain_printed h p = subst (λ (t : List ℕ). Printed l at t after r) (sym (signed_low n h)) p
+-- std's text of the 64 bits, read as signed
+pub std_signed : (n : ℕ) → n < bits64 → std.signed_decimal (cast_signed w64 n) ≡ signed n
+std_signed n h = by (ltb n 0x8000_0000_0000_0000) refl
+  where
+    by : (b : Bool) → ltb n 0x8000_0000_0000_0000 ≡ b → std.signed_decimal (cast_signed w64 n) ≡ signed n
+    by true e =
+        let k : n < 0x8000_0000_0000_0000 = omega (arith, ltb-true n 0x8000_0000_0000_0000 e) in
+        ap std.signed_decimal (to_z_pos w64 n k) ∙ std_decimal n h ∙ sym (signed_low n k)
+    by false e =
+        let k : 0x8000_0000_0000_0000 ≤ n = omega (arith, ltb-false n 0x8000_0000_0000_0000 e) in
+        let m : suc (2 ^ 64 - suc n) ≡ bits64 - n = omega arith in
+        ap (λ (b : Bool). std.signed_decimal (sel b (pos n) (negsuc (2 ^ 64 - suc n)))) e
+        ∙ ap (λ (d : ℕ). 45 ∷ std.decimal d) m
+        ∙ ap (λ (l : List ℕ). 45 ∷ l) (std_decimal (bits64 - n) (omega arith))
+        ∙ sym (signed_high n k)
 
-  pub minus_printed : (k : ℕ) → 0x8000_0000_0000_0000 ≤ n → k ≡ bits64 - n → Printed (set l at 45) (at + 1) (decimal k) after r → Printed l at (signed n) after r
-  unfolding answers
-  minus_printed k h e p =
-      let q : Printed l at (45 ∷ decimal k) after r =
-      record {
-        is = p.is ∙ ap (λ (n : ℕ). sets (set l at 45) n (decimal k)) (native.Mathlib.Numerals.add-one at);
-        end = omega (arith, p.end);
-      }
-      in
-      subst (λ (t : List ℕ). Printed l at t after r) (ap (λ (k : ℕ). 45 ∷ decimal k) e ∙ sym (signed_high n h)) q
+-- std's text of a number that was cast
+pub cast_text : (n : ℕ) (z : ℤ) → n < bits64 → z ≡ cast_signed w64 n → std.signed_decimal (cast_signed w64 (of_z w64 z)) ≡ signed n
+cast_text n z h e =
+    ap (λ (z : ℤ). std.signed_decimal (cast_signed w64 (of_z w64 z))) e
+    ∙ ap (λ (m : ℕ). std.signed_decimal (cast_signed w64 m)) (of_z-to_z w64 n h)
+    ∙ std_signed n h
+
+-- ---- written at once
+
+pub put_printed : (l t t' : List ℕ) (at : ℕ) → t' ≡ t → at + length t ≤ length l → Printed l at t (put_mid at (at + length t - at) l t') (at + length t)
+unfolding answers
+put_printed l t t' at e h =
+    let n : length t ≡ at + length t - at = omega arith in
+    record {
+      is =
+          put_mid-paste at (at + length t - at) l t' t (length t) e n refl
+          ∙ paste_all l at t (length t) refl
+          ∙ rw (sets-eq t l at h, append_assoc) refl;
+      end = refl;
+    }
 
 -- ---- hex
 

@@ -2,64 +2,42 @@
 // they are read. A signed number is kept as its 64 bits.
 #![tactic(auto)]
 
-ghost use Rattle.std.specs.Prelude.{◌≡◌, true, ◌+◌, ◌*◌, ◌/◌, ◌≤◌, ◌<◌, length};
+ghost use Rattle.std.specs.Prelude.{◌≡◌, true, ◌+◌, ◌*◌, ◌/◌, ◌≤◌, ◌<◌, length, IfSome};
 ghost use Rattle.rules.specs.Text as rules;
-ghost use Rattle.text_numbers.specs.Answers.{hex_shown, pair_shown, pair_value, is_hex, unhexed, written, Unhexed, Printed};
+ghost use Rattle.text_decimals.specs.Reads.{shown};
+ghost use Rattle.text_numbers.specs.Answers.{pair_value, is_hex, unhexed, written, Unhexed, Printed};
 
-// How many bytes were read of a hex text.
-#[derive(Clone, Copy)]
-pub enum Hexed {
-    Bad,
-    Good(usize),
-}
+use itoa::Buffer;
 
-// A hex digit's number; 16 where it is none.
-fn hex_value(byte: u8) -> u8
-    ensures { (hex_shown result ≡ rules.hex_value byte) × (result ≤ 16) }
+// A hex digit's number.
+fn hex_value(byte: u8) -> Option<u8>
+    ensures value { shown result ≡ rules.hex_value byte }
+    ensures small { IfSome result (λ n. n < 16) }
 {
-    if byte < 48 {
-        16
-    } else if byte <= 57 {
-        byte - 48
-    } else if byte < 97 {
-        16
-    } else if byte <= 102 {
-        byte - 87
-    } else {
-        16
+    match byte {
+        b'0'..=b'9' => Some(byte - b'0'),
+        b'a'..=b'f' => Some(byte - b'a' + 10),
+        _ => None,
     }
 }
 
-// The byte that two hex digits are; 256 where they are not.
-fn pair(a: u8, b: u8) -> u64
-    ensures { (pair_shown result ≡ pair_value a b) × (result ≤ 256) }
+// The byte that two hex digits are.
+fn pair(a: u8, b: u8) -> Option<u8>
+    ensures { shown result ≡ pair_value a b }
 {
-    let high = hex_value(a);
-    if high == 16 {
-        return 256;
-    }
-    let low = hex_value(b);
-    if low == 16 {
-        return 256;
-    }
-    16 * text_decimals::wide(high) + text_decimals::wide(low)
+    Some(16 * hex_value(a)? + hex_value(b)?)
 }
 
 // The text is pairs of hex digits.
 pub fn is_hex(t: &[u8]) -> bool
     ensures { result ≡ is_hex t.now }
 {
-    let mut i = 0;
-    while i < t.len() {
-        if t.len() - i == 1 {
+    for i in 0..t.len() / 2 {
+        if pair(t[2 * i], t[2 * i + 1]).is_none() {
             return false;
         }
-        if pair(t[i], t[i + 1]) == 256 {
-            return false;
-        }
-        i += 2;
     }
-    true
+    t.len() % 2 == 0
 }
 
 // Writes the bytes of a hex text from a place on.
@@ -68,54 +46,39 @@ pub fn write_unhexed(t: &[u8], out: &mut [u8], at: usize)
     requires t_in_bounds { at + length t.now / 2 ≤ length out.old }
     ensures { out.new ≡ written out.old at (unhexed t.now) }
 {
-    let mut n = 0;
-    while 2 * n < t.len() {
-        out[at + n] = pair(t[2 * n], t[2 * n + 1]) as u8;
-        n += 1;
+    for i in 0..t.len() / 2 {
+        out[at + i] = pair(t[2 * i], t[2 * i + 1]).unwrap();
     }
 }
 
-// The same where the text is hex. It is looked at first, so that nothing is written where it is not.
-pub fn unhex(t: &[u8], out: &mut [u8], at: usize) -> Hexed
+// The same where the text is hex, and how many bytes that is. It is looked at first, so that nothing is written where it is not.
+pub fn unhex(t: &[u8], out: &mut [u8], at: usize) -> Option<usize>
     requires { at + length t.now / 2 ≤ length out.old }
     ensures { Unhexed out.old at t.now out.new result }
 {
-    if is_hex(t) {
-        write_unhexed(t, out, at);
-        Hexed::Good(t.len() / 2)
-    } else {
-        Hexed::Bad
+    if !is_hex(t) {
+        return None;
     }
+    write_unhexed(t, out, at);
+    Some(t.len() / 2)
 }
 
-// How many digits a number has.
-pub fn width(n: u64) -> usize
-    ensures { (result ≡ length (rules.decimal n)) × (result ≤ 20) }
+// Writes a text from a place on, and answers its end.
+pub fn print_text(t: &[u8], out: &mut [u8], at: usize) -> usize
+    requires { at + length t.now ≤ length out.old }
+    ensures { Printed out.old at t.now out.new result }
 {
-    let mut m = n;
-    let mut w: usize = 1;
-    while 10 <= m {
-        m = m / 10;
-        w += 1;
-    }
-    w
+    let end = at + t.len();
+    out[at..end].copy_from_slice(t);
+    end
 }
 
-// Writes a number's digits from a place on, the last first, and answers their end.
+// Writes a number's digits from a place on, and answers their end.
 pub fn print_decimal(n: u64, out: &mut [u8], at: usize) -> usize
     requires { at + length (rules.decimal n) ≤ length out.old }
     ensures { Printed out.old at (rules.decimal n) out.new result }
 {
-    let end = at + width(n);
-    let mut i = end;
-    let mut m = n;
-    while 10 <= m {
-        i -= 1;
-        out[i] = (m % 10) as u8 + 48;
-        m = m / 10;
-    }
-    out[at] = m as u8 + 48;
-    end
+    print_text(Buffer::new().format(n).as_bytes(), out, at)
 }
 
 // The same for a number of 64 bits, read as signed.
@@ -123,11 +86,7 @@ pub fn print_signed(n: u64, out: &mut [u8], at: usize) -> usize
     requires { at + length (rules.signed n) ≤ length out.old }
     ensures { Printed out.old at (rules.signed n) out.new result }
 {
-    if n < 9223372036854775808 {
-        return print_decimal(n, out, at);
-    }
-    out[at] = 45;
-    print_decimal(18446744073709551615 - n + 1, out, at + 1)
+    print_text(Buffer::new().format(n.cast_signed()).as_bytes(), out, at)
 }
 
 // The hex digit of a number below 16.
@@ -135,7 +94,7 @@ pub fn hex_digit(n: u8) -> u8
     requires { n < 16 }
     ensures { result ≡ rules.digit n }
 {
-    if n < 10 { n + 48 } else { n + 87 }
+    if n < 10 { b'0' + n } else { b'a' + (n - 10) }
 }
 
 // Writes the hex digits of bytes from a place on, and answers their end.
@@ -143,12 +102,9 @@ pub fn print_hex(t: &[u8], out: &mut [u8], at: usize) -> usize
     requires { at + 2 * length t.now ≤ length out.old }
     ensures { Printed out.old at (rules.hex t.now) out.new result }
 {
-    let mut i = 0;
-    while i < t.len() {
-        let byte = t[i];
-        out[at + 2 * i] = hex_digit(byte / 16);
-        out[at + 2 * i + 1] = hex_digit(byte % 16);
-        i += 1;
+    for (i, byte) in t.iter().enumerate() {
+        out[at + 2 * i] = hex_digit(*byte / 16);
+        out[at + 2 * i + 1] = hex_digit(*byte % 16);
     }
-    at + 2 * i
+    at + 2 * t.len()
 }

@@ -11,6 +11,7 @@ pub fn read_full(input: &mut impl Read, room: &mut [u8]) -> io::Result<usize>
     ensures within { IfOk result (λ n. n ≤ length room.new) }
     ensures size { length room.new ≡ length room.old }
 {
+    // Kept: how far each read comes says where the next begins, which no range or iterator counts.
     let mut at = 0;
     while at < room.len() {
         let n = input.read(&mut room[at..])?;

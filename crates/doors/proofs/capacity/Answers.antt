@@ -1,18 +1,21 @@
 -- `doors::capacity`: the header's word 1. Assumes nothing.
-use mathlib.Core.Path.{sym, ◌∙◌}
+use mathlib.Core.Path.{ap, ◌∙◌}
 use native.Mathlib.Omega.{arith}
 use Rattle.rules.specs.Heap.{capacity}
 use Rattle.rules.specs.Calls.{capacity_call}
-use Rattle.heap_sound_rows.specs.Rows.{lists}
+use Rattle.leaf_lists.specs.Lists.{lent_of}
+use Rattle.leaf_lists.specs.declared.Lists.{Lists}
+use Rattle.refusals.specs.declared.Refusal.TheVariants.{Unsound}
+use Rattle.heap_given.proofs.AnswerLaws.{passed_on}
 use Rattle.doors.proofs.DoorLaws.{known, count_unsound, capacity_is}
 use Rattle.doors.proofs.capacity.Goals as goal
 
-pub returns-then-not-is_sound : goal.returns-then-not-is_sound
+pub returns-in_err-sound : goal.returns-in_err-sound
 unfolding capacity_call
-returns-then-not-is_sound c = count_unsound capacity (lists c.args.words.now c.args.map.now c.args.bytes.now c.args.elems.now) (sym c.is_sound.ensures ∙ c.if-not-is_sound.true)
+returns-in_err-sound c = passed_on (λ a. a) _ _ Unsound c.from_residual.ensures.1 c.in_err-sound.ensures.1 ∙ count_unsound capacity (lent_of c.args.heap) c.in_err-sound.ensures.0
 
-pub bounds-words-1 : goal.bounds-words-1
-bounds-words-1 c = omega (arith, (known (lists c.args.words.now c.args.map.now c.args.bytes.now c.args.elems.now) (sym c.is_sound.ensures ∙ c.if-not-is_sound.false)).header)
+pub bounds-sound-1 : goal.bounds-sound-1
+bounds-sound-1 c = omega (arith, (known (lent_of c.in_ok-sound.sound.lists) c.in_ok-sound.sound.sound).header)
 
 pub returns : goal.returns
-returns c = capacity_is (lists c.args.words.now c.args.map.now c.args.bytes.now c.args.elems.now) (sym c.is_sound.ensures ∙ c.if-not-is_sound.false)
+returns c = capacity_is (lent_of c.in_ok-sound.sound.lists) c.in_ok-sound.sound.sound ∙ ap (λ (h : Lists). capacity_call (lent_of h)) c.in_ok-sound.ensures.1

@@ -1,23 +1,15 @@
 -- `doors::text_told`: the block's answer without the block. Assumes nothing.
-use mathlib.Core.Path.{refl}
-use Rattle.rules.specs.Refusals.{told}
-use Rattle.heap_sound_rows.specs.Rows.{lists}
-use Rattle.doors.specs.declared.TextAnswer.TheVariants.{Held, Unsound, NoSuchSlot, WrongCell}
+use mathlib.Core.Path.{refl, ap}
+use Rattle.rules.specs.Refusals.{accepted, told}
+use Rattle.leaf_lists.specs.Lists.{lent_of}
+use Rattle.heap_given.proofs.AnswerLaws.{passed_on}
 use Rattle.doors.proofs.DoorLaws.{told_as}
 use Rattle.doors.proofs.text_told.Goals as goal
 
-pub returns-in-Held : goal.returns-in-Held
+pub returns-in_err-text_block : goal.returns-in_err-text_block
 unfolding told
-returns-in-Held c = told_as (lists c.args.words.now c.args.map.now c.args.bytes.now c.args.elems.now) c.args.slot Held _ _ c.text_block-block.ensures c.in-Held.is refl
+returns-in_err-text_block c = told_as (lent_of c.args.heap) c.args.slot _ _ c.in_err-text_block.ensures (ap told (passed_on (λ a. a) _ _ _ c.from_residual.ensures.1 refl))
 
-pub returns-in-Unsound : goal.returns-in-Unsound
+pub returns : goal.returns
 unfolding told
-returns-in-Unsound c = told_as (lists c.args.words.now c.args.map.now c.args.bytes.now c.args.elems.now) c.args.slot Unsound _ _ c.text_block-block.ensures c.in-Unsound.is refl
-
-pub returns-in-NoSuchSlot : goal.returns-in-NoSuchSlot
-unfolding told
-returns-in-NoSuchSlot c = told_as (lists c.args.words.now c.args.map.now c.args.bytes.now c.args.elems.now) c.args.slot NoSuchSlot _ _ c.text_block-block.ensures c.in-NoSuchSlot.is refl
-
-pub returns-in-WrongCell : goal.returns-in-WrongCell
-unfolding told
-returns-in-WrongCell c = told_as (lists c.args.words.now c.args.map.now c.args.bytes.now c.args.elems.now) c.args.slot WrongCell _ _ c.text_block-block.ensures c.in-WrongCell.is refl
+returns c = told_as (lent_of c.args.heap) c.args.slot (accepted tt) _ c.in_ok-text_block.ensures refl

@@ -1,24 +1,26 @@
 -- `doors::used`: the part of the map in use is counted. Assumes nothing.
-use mathlib.Core.Path.{sym, ◌∙◌}
+use mathlib.Core.Path.{sym, ap}
 use Prim.Native.Nat.{◌/◌}
 use native.Mathlib.Omega.{arith}
 use lib.ListN.{get_or}
 use lib.Seq.{length-take-le}
-use Rattle.heap_sound_rows.specs.Rows.{lists}
-use Rattle.doors.proofs.DoorLaws.{known, used_unsound, used_is}
+use Rattle.leaf_lists.specs.Lists.{lent_of}
+use Rattle.refusals.specs.declared.Refusal.TheVariants.{Unsound}
+use Rattle.heap_given.proofs.AnswerLaws.{passed_on}
+use Rattle.doors.proofs.DoorLaws.{known, used_unsound, used_is, used_for}
 use Rattle.doors.proofs.used.Goals as goal
 
-pub returns-then-not-is_sound : goal.returns-then-not-is_sound
-returns-then-not-is_sound c = used_unsound (lists c.args.words.now c.args.map.now c.args.bytes.now c.args.elems.now) (sym c.is_sound.ensures ∙ c.if-not-is_sound.true)
+pub returns-in_err-sound : goal.returns-in_err-sound
+returns-in_err-sound c = used_unsound (lent_of c.args.heap) c.in_err-sound.ensures.0 _ (passed_on (λ a. a) _ _ Unsound c.from_residual.ensures.1 c.in_err-sound.ensures.1)
 
-pub bounds-words-1 : goal.bounds-words-1
-bounds-words-1 c = let k = known (lists c.args.words.now c.args.map.now c.args.bytes.now c.args.elems.now) (sym c.is_sound.ensures ∙ c.if-not-is_sound.false) in omega (arith, k.header)
+pub bounds-sound-1 : goal.bounds-sound-1
+bounds-sound-1 c = omega (arith, (known (lent_of c.in_ok-sound.sound.lists) c.in_ok-sound.sound.sound).header)
 
 pub slice_bounds-used-end : goal.slice_bounds-used-end
-slice_bounds-used-end c = sym (length-take-le (get_or c.args.words.now 1 0 / 4) c.args.map.now (known (lists c.args.words.now c.args.map.now c.args.bytes.now c.args.elems.now) (sym c.is_sound.ensures ∙ c.if-not-is_sound.false)).states)
+slice_bounds-used-end c = sym (length-take-le (get_or c.in_ok-sound.sound.lists.words.now 1 0 / 4) c.in_ok-sound.sound.lists.map.now (known (lent_of c.in_ok-sound.sound.lists) c.in_ok-sound.sound.sound).states)
 
 pub used-requires : goal.used-requires
-used-requires c = let k = known (lists c.args.words.now c.args.map.now c.args.bytes.now c.args.elems.now) (sym c.is_sound.ensures ∙ c.if-not-is_sound.false) in omega (arith, length-take-le (get_or c.args.words.now 1 0 / 4) c.args.map.now k.states, k.few)
+used-requires c = let k = known (lent_of c.in_ok-sound.sound.lists) c.in_ok-sound.sound.sound in omega (arith, length-take-le (get_or c.in_ok-sound.sound.lists.words.now 1 0 / 4) c.in_ok-sound.sound.lists.map.now k.states, k.few)
 
 pub returns : goal.returns
-returns c = used_is (lists c.args.words.now c.args.map.now c.args.bytes.now c.args.elems.now) (sym c.is_sound.ensures ∙ c.if-not-is_sound.false) _ c.used.ensures
+returns c = used_for _ _ _ (ap lent_of c.in_ok-sound.ensures.1) (used_is (lent_of c.in_ok-sound.sound.lists) c.in_ok-sound.sound.sound _ c.used.ensures)

@@ -1,27 +1,46 @@
 -- `doors_collect::collect`: 20, then 19, then 14, then the collection. Assumes nothing.
-use mathlib.Core.Path.{sym, ◌∙◌}
-use Rattle.heap_sound_rows.specs.Rows.{lists}
+use mathlib.Core.Path.{◌≡◌, sym, ap, ◌∙◌}
+use Rattle.rules.specs.Calls.{left}
+use Rattle.leaf_lists.specs.Lists.{lent_of, held}
+use Rattle.refusals.specs.declared.Refusal.TheVariants.{Unsound}
+use Rattle.heap_given.proofs.AnswerLaws.{passed_on}
+use Rattle.heap_given.proofs.CheckedLaws.{sound_for, short_for}
 use Rattle.heap_given.proofs.HeaderLaws.{header_there}
-use Rattle.doors_collect.proofs.CollectLaws.{asked, fours, collect_unsound, collect_short, collect_no_root, collect_ready, collect_done}
+use Rattle.doors_collect.proofs.CollectLaws.{asked_of, fours, collect_unsound, collect_short, collect_no_root, collect_ready, collect_done}
 use Rattle.doors_collect.proofs.collect.Goals as goal
 
-pub returns-then-not-is_sound : goal.returns-then-not-is_sound
-returns-then-not-is_sound c = collect_unsound (lists c.args.words.now c.args.map.now c.args.bytes.now c.args.elems.now) c.args.scratch.now c.args.roots.now (sym c.is_sound.ensures ∙ c.if-not-is_sound.true)
+pub returns-in_err-sound-clause-leaves : goal.returns-in_err-sound-clause-leaves
+returns-in_err-sound-clause-leaves c =
+    ap (λ a. left a (held c.args.heap.now) c.args.scratch.now) (passed_on (λ a. a) _ _ Unsound c.from_residual.ensures.1 c.in_err-sound.ensures.1)
+    ∙ collect_unsound (held c.args.heap.now) c.args.scratch.now c.args.roots.now (sound_for _ _ _ c.lists.ensures c.in_err-sound.ensures.0)
 
-pub scratch_short-requires : goal.scratch_short-requires
-scratch_short-requires c = (sym c.is_sound.ensures ∙ c.if-not-is_sound.false)
-
-pub returns-then-scratch_short : goal.returns-then-scratch_short
-returns-then-scratch_short c = collect_short (lists c.args.words.now c.args.map.now c.args.bytes.now c.args.elems.now) c.args.scratch.now c.args.roots.now (sym c.is_sound.ensures ∙ c.if-not-is_sound.false) (sym c.scratch_short.ensures ∙ c.if-scratch_short.true)
+pub returns-then-scratch_short-clause-leaves : goal.returns-then-scratch_short-clause-leaves
+returns-then-scratch_short-clause-leaves c =
+    collect_short (held c.args.heap.now) c.args.scratch.now c.args.roots.now (sound_for _ _ _ c.lists.ensures c.in_ok-sound.ensures.0)
+    (short_for (lent_of c.in_ok-sound.sound.lists) _ _ _ _ (ap lent_of c.in_ok-sound.ensures.1 ∙ c.lists.ensures) c.scratch_short.ensures c.if-scratch_short.true)
 
 pub roots_in_use-requires : goal.roots_in_use-requires
-roots_in_use-requires c = record { in_bounds = header_there (lists c.args.words.now c.args.map.now c.args.bytes.now c.args.elems.now) (sym c.is_sound.ensures ∙ c.if-not-is_sound.false); words_value = fours (lists c.args.words.now c.args.map.now c.args.bytes.now c.args.elems.now) (sym c.is_sound.ensures ∙ c.if-not-is_sound.false) }
+roots_in_use-requires c =
+    let s = c.in_ok-sound.sound in
+    record { in_bounds = header_there (lent_of s.lists) s.sound; words_value = fours (lent_of s.lists) s.sound }
 
-pub returns-then-not-roots_in_use : goal.returns-then-not-roots_in_use
-returns-then-not-roots_in_use c = collect_no_root (lists c.args.words.now c.args.map.now c.args.bytes.now c.args.elems.now) c.args.scratch.now c.args.roots.now (sym c.is_sound.ensures ∙ c.if-not-is_sound.false) (sym c.scratch_short.ensures ∙ c.if-scratch_short.false) _ (sym (asked c.args.words.now c.args.map.now c.args.bytes.now c.args.elems.now c.args.roots.now) ∙ sym c.roots_in_use.ensures ∙ c.if-not-roots_in_use.true) c.clear_words.ensures
+pub returns-then-not-roots_in_use-clause-leaves : goal.returns-then-not-roots_in_use-clause-leaves
+returns-then-not-roots_in_use-clause-leaves c =
+    let h = c.args.heap.now in
+    collect_no_root (held h) c.args.scratch.now c.args.roots.now (sound_for _ _ _ c.lists.ensures c.in_ok-sound.ensures.0)
+    (short_for (lent_of c.in_ok-sound.sound.lists) _ _ _ _ (ap lent_of c.in_ok-sound.ensures.1 ∙ c.lists.ensures) c.scratch_short.ensures c.if-scratch_short.false)
+    _ (asked_of (lent_of c.in_ok-sound.sound.lists) (held h) _ _ (ap lent_of c.in_ok-sound.ensures.1 ∙ c.lists.ensures) c.roots_in_use.ensures c.if-not-roots_in_use.true) c.clear_words.ensures
 
 pub collect-requires : goal.collect-requires
-collect-requires c = collect_ready (lists c.args.words.now c.args.map.now c.args.bytes.now c.args.elems.now) c.args.scratch.now c.args.roots.now (sym c.is_sound.ensures ∙ c.if-not-is_sound.false) (sym c.scratch_short.ensures ∙ c.if-scratch_short.false) (sym (asked c.args.words.now c.args.map.now c.args.bytes.now c.args.elems.now c.args.roots.now) ∙ sym c.roots_in_use.ensures ∙ c.if-not-roots_in_use.false)
+collect-requires c =
+    let h = c.args.heap.now in
+    collect_ready (held h) c.args.scratch.now c.args.roots.now (sound_for _ _ _ c.lists.ensures c.in_ok-sound.ensures.0)
+    (short_for (lent_of c.in_ok-sound.sound.lists) _ _ _ _ (ap lent_of c.in_ok-sound.ensures.1 ∙ c.lists.ensures) c.scratch_short.ensures c.if-scratch_short.false)
+    (asked_of (lent_of c.in_ok-sound.sound.lists) (held h) _ _ (ap lent_of c.in_ok-sound.ensures.1 ∙ c.lists.ensures) c.roots_in_use.ensures c.if-not-roots_in_use.false)
 
-pub returns : goal.returns
-returns c = collect_done (lists c.args.words.now c.args.map.now c.args.bytes.now c.args.elems.now) c.args.scratch.now c.args.roots.now (sym c.is_sound.ensures ∙ c.if-not-is_sound.false) (sym c.scratch_short.ensures ∙ c.if-scratch_short.false) _ _ (sym (asked c.args.words.now c.args.map.now c.args.bytes.now c.args.elems.now c.args.roots.now) ∙ sym c.roots_in_use.ensures ∙ c.if-not-roots_in_use.false) c.collect.ensures.elems_after c.collect.ensures.scratch_after
+pub returns-clause-leaves : goal.returns-clause-leaves
+returns-clause-leaves c =
+    let h = c.args.heap.now in
+    collect_done (held h) c.args.scratch.now c.args.roots.now (sound_for _ _ _ c.lists.ensures c.in_ok-sound.ensures.0)
+    (short_for (lent_of c.in_ok-sound.sound.lists) _ _ _ _ (ap lent_of c.in_ok-sound.ensures.1 ∙ c.lists.ensures) c.scratch_short.ensures c.if-scratch_short.false)
+    _ _ (asked_of (lent_of c.in_ok-sound.sound.lists) (held h) _ _ (ap lent_of c.in_ok-sound.ensures.1 ∙ c.lists.ensures) c.roots_in_use.ensures c.if-not-roots_in_use.false) c.collect.ensures.elems_after c.collect.ensures.scratch_after

@@ -2,22 +2,22 @@
 use mathlib.Core.Path.{sym, ◌∙◌}
 use native.Mathlib.Omega.{arith}
 use Rattle.leaf_cells.specs.Elements.{value_of}
-use Rattle.heap_sound_rows.specs.Rows.{lists}
+use Rattle.leaf_lists.specs.Lists.{lent_of}
 use Rattle.heap_given.proofs.HeaderLaws.{header_there}
 use Rattle.doors_equal.proofs.EqualLaws.{first_free, second_free, comparable, compared, roomy}
 use Rattle.doors_equal.proofs.equal_values.Goals as goal
 
-pub bounds-words-1 : goal.bounds-words-1
-bounds-words-1 c = omega (arith, header_there (lists c.args.words.now c.args.map.now c.args.bytes.now c.args.elems.now) c.requires.elems_value)
+pub bounds-heap-1 : goal.bounds-heap-1
+bounds-heap-1 c = omega (arith, header_there (lent_of c.args.heap.lists) c.args.heap.sound)
 
 pub returns-then-not-value_in_use : goal.returns-then-not-value_in_use
-returns-then-not-value_in_use c = first_free (lists c.args.words.now c.args.map.now c.args.bytes.now c.args.elems.now) c.requires.elems_value c.args.scratch.now (value_of c.args.v) (value_of c.args.w) (sym c.value_in_use.ensures ∙ c.if-not-value_in_use.true) _ c.clear_words.ensures
+returns-then-not-value_in_use c = first_free (lent_of c.args.heap.lists) c.args.heap.sound c.args.scratch.now (value_of c.args.v) (value_of c.args.w) (sym c.value_in_use.ensures ∙ c.if-not-value_in_use.true) _ c.clear_words.ensures
 
 pub returns-then-not-value_in_use-2 : goal.returns-then-not-value_in_use-2
-returns-then-not-value_in_use-2 c = second_free (lists c.args.words.now c.args.map.now c.args.bytes.now c.args.elems.now) c.requires.elems_value c.args.scratch.now (value_of c.args.v) (value_of c.args.w) (sym c.value_in_use.ensures ∙ c.if-not-value_in_use.false) (sym c.value_in_use-2.ensures ∙ c.if-not-value_in_use-2.true) _ c.clear_words-then-not-value_in_use-2.ensures
+returns-then-not-value_in_use-2 c = second_free (lent_of c.args.heap.lists) c.args.heap.sound c.args.scratch.now (value_of c.args.v) (value_of c.args.w) (sym c.value_in_use.ensures ∙ c.if-not-value_in_use.false) (sym c.value_in_use-2.ensures ∙ c.if-not-value_in_use-2.true) _ c.clear_words-then-not-value_in_use-2.ensures
 
 pub equal-requires : goal.equal-requires
-equal-requires c = record { comparable = comparable (lists c.args.words.now c.args.map.now c.args.bytes.now c.args.elems.now) c.requires.elems_value c.args.scratch.now (value_of c.args.v) (value_of c.args.w) (sym c.value_in_use.ensures ∙ c.if-not-value_in_use.false) (sym c.value_in_use-2.ensures ∙ c.if-not-value_in_use-2.false); room = roomy (lists c.args.words.now c.args.map.now c.args.bytes.now c.args.elems.now) c.args.scratch.now c.requires.words_value }
+equal-requires c = record { comparable = comparable (lent_of c.args.heap.lists) c.args.heap.sound c.args.scratch.now (value_of c.args.v) (value_of c.args.w) (sym c.value_in_use.ensures ∙ c.if-not-value_in_use.false) (sym c.value_in_use-2.ensures ∙ c.if-not-value_in_use-2.false); room = roomy (lent_of c.args.heap.lists) c.args.scratch.now c.requires }
 
 pub returns : goal.returns
-returns c = compared (lists c.args.words.now c.args.map.now c.args.bytes.now c.args.elems.now) c.requires.elems_value c.args.scratch.now (value_of c.args.v) (value_of c.args.w) (sym c.value_in_use.ensures ∙ c.if-not-value_in_use.false) (sym c.value_in_use-2.ensures ∙ c.if-not-value_in_use-2.false) _ _ c.equal.ensures
+returns c = compared (lent_of c.args.heap.lists) c.args.heap.sound c.args.scratch.now (value_of c.args.v) (value_of c.args.w) (sym c.value_in_use.ensures ∙ c.if-not-value_in_use.false) (sym c.value_in_use-2.ensures ∙ c.if-not-value_in_use-2.false) _ _ c.equal.ensures

@@ -1,27 +1,21 @@
 -- `doors_store::cell_store`: 20, then 11, then what is behind them. Assumes nothing.
-use mathlib.Core.Path.{refl, sym, ap, ◌∙◌}
+use mathlib.Core.Path.{refl, ap, ◌∙◌}
+use Rattle.rules.specs.Calls.{stored}
+use Rattle.refusals.specs.declared.Refusal.TheVariants.{Unsound}
 use Rattle.heap_sound_rows.specs.Rows.{lists}
-use Rattle.heap_given.specs.Given.{cell_answer}
+use Rattle.heap_given.proofs.AnswerLaws.{passed_on}
 use Rattle.doors_store.proofs.StoreLaws.{cell_unsound, cell_malformed, cell_accepted}
 use Rattle.doors_store.proofs.cell_store.Goals as goal
 
-pub shape_of-words-then-not-is_sound : goal.shape_of-words-then-not-is_sound
-shape_of-words-then-not-is_sound c = refl
+pub returns-in_err-checked : goal.returns-in_err-checked
+returns-in_err-checked c =
+    ap (λ x. stored x (lists c.args.words.now c.args.map.now c.args.bytes.now c.args.elems.now)) (passed_on (λ x. x) _ _ Unsound c.from_residual.ensures.1 c.in_err-checked.ensures.1)
+    ∙ cell_unsound (lists c.args.words.now c.args.map.now c.args.bytes.now c.args.elems.now) c.args.slot c.args.kind c.args.a c.args.b c.in_err-checked.ensures.0
 
-pub returns-then-not-is_sound : goal.returns-then-not-is_sound
-returns-then-not-is_sound c = cell_unsound (lists c.args.words.now c.args.map.now c.args.bytes.now c.args.elems.now) c.args.slot c.args.kind c.args.a c.args.b (sym c.is_sound.ensures ∙ c.if-not-is_sound.true)
+pub returns-in_err-new : goal.returns-in_err-new
+returns-in_err-new c =
+    ap (λ x. stored x (lists c.args.words.now c.args.map.now c.args.bytes.now c.args.elems.now)) (passed_on (λ x. x) _ _ _ c.from_residual-in_err-new.ensures.1 refl)
+    ∙ cell_malformed (lists c.args.words.now c.args.map.now c.args.bytes.now c.args.elems.now) c.args.slot c.args.kind c.args.a c.args.b c.in_ok-checked.ensures.0 _ c.in_err-new.ensures
 
-pub store_cell-requires : goal.store_cell-requires
-store_cell-requires c = sym c.is_sound.ensures ∙ c.if-not-is_sound.false
-
-pub shape_of-words-in-Given : goal.shape_of-words-in-Given
-shape_of-words-in-Given c = c.store_cell.auto.words
-
-pub returns-in-Given : goal.returns-in-Given
-returns-in-Given c = c.store_cell.ensures ∙ cell_accepted (lists c.args.words.now c.args.map.now c.args.bytes.now c.args.elems.now) c.args.slot c.args.kind c.args.a c.args.b (sym c.is_sound.ensures ∙ c.if-not-is_sound.false) _ (ap cell_answer (sym c.in-Given.is) ∙ c.given_cell-given.ensures)
-
-pub shape_of-words-in-Malformed : goal.shape_of-words-in-Malformed
-shape_of-words-in-Malformed c = refl
-
-pub returns-in-Malformed : goal.returns-in-Malformed
-returns-in-Malformed c = cell_malformed (lists c.args.words.now c.args.map.now c.args.bytes.now c.args.elems.now) c.args.slot c.args.kind c.args.a c.args.b (sym c.is_sound.ensures ∙ c.if-not-is_sound.false) _ (ap cell_answer (sym c.in-Malformed.is) ∙ c.given_cell-given.ensures)
+pub returns : goal.returns
+returns c = c.store_cell.ensures ∙ cell_accepted (lists c.args.words.now c.args.map.now c.args.bytes.now c.args.elems.now) c.args.slot c.args.kind c.args.a c.args.b c.in_ok-checked.ensures.0 _ c.in_ok-new.ensures

@@ -1,27 +1,21 @@
 -- `doors_store::element_store`: 20, then 11, then what is behind them. Assumes nothing.
-use mathlib.Core.Path.{refl, sym, ap, ◌∙◌}
+use mathlib.Core.Path.{refl, ap, ◌∙◌}
+use Rattle.rules.specs.Calls.{stored}
+use Rattle.refusals.specs.declared.Refusal.TheVariants.{Unsound}
 use Rattle.heap_sound_rows.specs.Rows.{lists}
-use Rattle.heap_given.specs.Given.{value_answer}
+use Rattle.heap_given.proofs.AnswerLaws.{passed_on}
 use Rattle.doors_store.proofs.StoreLaws.{element_unsound, element_malformed, element_accepted}
 use Rattle.doors_store.proofs.element_store.Goals as goal
 
-pub shape_of-elems-then-not-is_sound : goal.shape_of-elems-then-not-is_sound
-shape_of-elems-then-not-is_sound c = refl
+pub returns-in_err-checked : goal.returns-in_err-checked
+returns-in_err-checked c =
+    ap (λ x. stored x (lists c.args.words.now c.args.map.now c.args.bytes.now c.args.elems.now)) (passed_on (λ x. x) _ _ Unsound c.from_residual.ensures.1 c.in_err-checked.ensures.1)
+    ∙ element_unsound (lists c.args.words.now c.args.map.now c.args.bytes.now c.args.elems.now) c.args.slot c.args.k c.args.kind c.args.a c.in_err-checked.ensures.0
 
-pub returns-then-not-is_sound : goal.returns-then-not-is_sound
-returns-then-not-is_sound c = element_unsound (lists c.args.words.now c.args.map.now c.args.bytes.now c.args.elems.now) c.args.slot c.args.k c.args.kind c.args.a (sym c.is_sound.ensures ∙ c.if-not-is_sound.true)
+pub returns-in_err-new : goal.returns-in_err-new
+returns-in_err-new c =
+    ap (λ x. stored x (lists c.args.words.now c.args.map.now c.args.bytes.now c.args.elems.now)) (passed_on (λ x. x) _ _ _ c.from_residual-in_err-new.ensures.1 refl)
+    ∙ element_malformed (lists c.args.words.now c.args.map.now c.args.bytes.now c.args.elems.now) c.args.slot c.args.k c.args.kind c.args.a c.in_ok-checked.ensures.0 _ c.in_err-new.ensures
 
-pub store_element-requires : goal.store_element-requires
-store_element-requires c = sym c.is_sound.ensures ∙ c.if-not-is_sound.false
-
-pub shape_of-elems-in-Given : goal.shape_of-elems-in-Given
-shape_of-elems-in-Given c = c.store_element.auto.elems
-
-pub returns-in-Given : goal.returns-in-Given
-returns-in-Given c = c.store_element.ensures ∙ element_accepted (lists c.args.words.now c.args.map.now c.args.bytes.now c.args.elems.now) c.args.slot c.args.k c.args.kind c.args.a (sym c.is_sound.ensures ∙ c.if-not-is_sound.false) _ (ap value_answer (sym c.in-Given.is) ∙ c.given_value-given.ensures)
-
-pub shape_of-elems-in-Malformed : goal.shape_of-elems-in-Malformed
-shape_of-elems-in-Malformed c = refl
-
-pub returns-in-Malformed : goal.returns-in-Malformed
-returns-in-Malformed c = element_malformed (lists c.args.words.now c.args.map.now c.args.bytes.now c.args.elems.now) c.args.slot c.args.k c.args.kind c.args.a (sym c.is_sound.ensures ∙ c.if-not-is_sound.false) _ (ap value_answer (sym c.in-Malformed.is) ∙ c.given_value-given.ensures)
+pub returns : goal.returns
+returns c = c.store_element.ensures ∙ element_accepted (lists c.args.words.now c.args.map.now c.args.bytes.now c.args.elems.now) c.args.slot c.args.k c.args.kind c.args.a c.in_ok-checked.ensures.0 _ c.in_ok-new.ensures

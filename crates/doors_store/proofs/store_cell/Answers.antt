@@ -23,4 +23,4 @@ pub shape_of-words : goal.shape_of-words
 shape_of-words c = c.cell_store.auto.words
 
 pub returns : goal.returns
-returns c = cell_passed (lists c.args.words.now c.args.map.now c.args.bytes.now c.args.elems.now) c.args.slot c.requires (cell_of c.args.new) (sym c.in_use.ensures ∙ c.if-not-in_use.false) (sym c.cell_in_use.ensures ∙ c.if-not-cell_in_use.false) _ _ _ c.store_answer.ensures c.cell_store.ensures
+returns c = cell_passed (lists c.args.words.now c.args.map.now c.args.bytes.now c.args.elems.now) c.args.slot c.requires (cell_of c.args.new) (sym c.in_use.ensures ∙ c.if-not-in_use.false) (sym c.cell_in_use.ensures ∙ c.if-not-cell_in_use.false) _ _ c.cell_store.ensures

@@ -23,4 +23,4 @@ pub shape_of-elems : goal.shape_of-elems
 shape_of-elems c = c.element_store.auto.elems
 
 pub returns : goal.returns
-returns c = element_passed (lists c.args.words.now c.args.map.now c.args.bytes.now c.args.elems.now) c.args.slot c.requires c.args.k (value_of c.args.new) (sym c.in_use.ensures ∙ c.if-not-in_use.false) (sym c.value_in_use.ensures ∙ c.if-not-value_in_use.false) _ _ _ c.store_answer.ensures c.element_store.ensures
+returns c = element_passed (lists c.args.words.now c.args.map.now c.args.bytes.now c.args.elems.now) c.args.slot c.requires c.args.k (value_of c.args.new) (sym c.in_use.ensures ∙ c.if-not-in_use.false) (sym c.value_in_use.ensures ∙ c.if-not-value_in_use.false) _ _ c.element_store.ensures

@@ -1,6 +1,6 @@
 -- The cycle of `heap_build`: a slot, its cell, a pair, a vector, its elements and one of them. The nodes left fall from a pair or a
 -- vector to what it holds, and from a definition to its cell.
-use Rattle.std.proofs.Common.{◌-◌, ◌≡◌, ◌+◌, ◌*◌, length}
+use Rattle.std.proofs.Common.{◌≡◌, ◌+◌, ◌*◌, length}
 use Rattle.heap_build.proofs.Cycle.{Going}
 use Rattle.heap_build.specs.Tasks.{Job, ElementsTask}
 use Rattle.heap_build.proofs.+building.Given as goal
@@ -28,8 +28,5 @@ invariant-build_elements-loop-i l =
     record {
       marks_same : length l.marks ≡ length l.initial.marks;
       out_same : length l.out ≡ length l.initial.out;
-      going : (j : Job) → ElementsTask j l.place l.n l.initial.q l.words l.bytes l.elems l.initial.marks l.initial.out → Going j l.place l.n l.initial.q l.words l.bytes l.elems l.initial.marks l.initial.out l.i l.q l.marks l.out;
+      going : (j : Job) → ElementsTask j l.place l.n l.initial.q l.heap.words.now l.heap.bytes.now l.heap.elems.now l.initial.marks l.initial.out → Going j l.place l.n l.initial.q l.heap.words.now l.heap.bytes.now l.heap.elems.now l.initial.marks l.initial.out l.i l.q l.marks l.out;
     }
-
-abbrev pub decreases-build_elements-loop-i : goal.decreases-build_elements-loop-i
-decreases-build_elements-loop-i l = l.n - l.i

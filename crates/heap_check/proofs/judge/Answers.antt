@@ -1,26 +1,34 @@
 -- `heap_check::judge`: 12 where a number is broken, then 13. Assumes nothing.
-use mathlib.Core.Path.{refl}
-use mathlib.Core.Bool.{true, false}
-use Rattle.heap_tally.specs.Pass.{limits}
-use Rattle.heap_tally.specs.Pass.{tally_of}
-use native.Mathlib.Omega.{arith}
+use Rattle.std.proofs.Common.{true, false, sym, refl, ◌∙◌, arith}
+use borrow.Author.Tests.{ltb-false}
+use Rattle.heap_tally.specs.Pass.{tally_of, limits}
 use Rattle.heap_tally.proofs.StepLaws.{judged_many, judged_rest}
+use Rattle.heap_check.proofs.judge.Goals.{then-tally-gt-NODES, else-tally-gt-NODES}
 use Rattle.heap_check.proofs.judge.Goals as goal
 
-pub returns-then-t-gt4096 : goal.returns-then-t-gt4096
-returns-then-t-gt4096 c = judged_many (tally_of c.args.t) (omega arith)
-
-pub returns-then-t : goal.returns-then-t
+pub returns-then-tally : goal.returns-then-tally
 unfolding limits
-returns-then-t c =
-    judged_rest (tally_of c.args.t) true c.args.t.early (omega arith) c.if-t.true refl
+returns-then-tally c =
+    let t = tally_of c.args.tally.now in
+    elim c.if-tally-gt-NODES.branch [
+      | then-tally-gt-NODES w ↦ judged_many t w.if-tally-gt-NODES.true
+      | else-tally-gt-NODES w ↦ judged_rest t true t.early w.if-tally-gt-NODES.false (sym w.value-is ∙ c.if-tally.true) refl
+    ]
 
-pub returns-then-t-2 : goal.returns-then-t-2
+pub returns-then-tally-2 : goal.returns-then-tally-2
 unfolding limits
-returns-then-t-2 c =
-    judged_rest (tally_of c.args.t) false true (omega arith) c.if-t.false c.if-t-2.true
+returns-then-tally-2 c =
+    let t = tally_of c.args.tally.now in
+    elim c.if-tally-gt-NODES.branch [
+      | then-tally-gt-NODES w ↦ absurd (omega (arith, w.if-tally-gt-NODES.true, ltb-false _ _ (sym w.value-is ∙ c.if-tally.false)))
+      | else-tally-gt-NODES w ↦ judged_rest t false true w.if-tally-gt-NODES.false (sym w.value-is ∙ c.if-tally.false) c.if-tally-2.true
+    ]
 
-pub returns-else-t-2 : goal.returns-else-t-2
+pub returns-else-tally-2 : goal.returns-else-tally-2
 unfolding limits
-returns-else-t-2 c =
-    judged_rest (tally_of c.args.t) false false (omega arith) c.if-t.false c.if-t-2.false
+returns-else-tally-2 c =
+    let t = tally_of c.args.tally.now in
+    elim c.if-tally-gt-NODES.branch [
+      | then-tally-gt-NODES w ↦ absurd (omega (arith, w.if-tally-gt-NODES.true, ltb-false _ _ (sym w.value-is ∙ c.if-tally.false)))
+      | else-tally-gt-NODES w ↦ judged_rest t false false w.if-tally-gt-NODES.false (sym w.value-is ∙ c.if-tally.false) c.if-tally-2.false
+    ]

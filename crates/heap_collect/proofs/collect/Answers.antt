@@ -1,16 +1,20 @@
--- `heap_collect::collect`: mark, sweep, pack, clear. Assumes nothing.
-use native.Mathlib.Omega.{arith}
-use Rattle.heap_collect.proofs.CollectLaws.{can_marks, can_sweep, can_pack, collects, clears}
+-- `heap_collect::collect`: mark and sweep, pack, clear. Assumes nothing.
+use mathlib.Core.Path.{refl, ◌∙◌}
+use Rattle.heap_sound_rows.specs.Rows.{lists}
+use Rattle.heap_collect.proofs.CollectLaws.{can_marks, can_sweep, pack_given, collects, clears}
 use Rattle.heap_collect.proofs.collect.Goals as goal
 
-pub mark-requires : goal.mark-requires
-mark-requires c = can_marks c.args.words.now c.args.map.now c.args.bytes.now c.args.elems.now c.args.scratch.now c.args.roots.now c.requires (λ k. omega (arith, c.slice_known-2-1.given k))
+pub mark_and_sweep-requires-clause-marks : goal.mark_and_sweep-requires-clause-marks
+mark_and_sweep-requires-clause-marks c = can_marks c.args.heap.now.words.now c.args.heap.now.map.now c.args.heap.now.bytes.now c.args.heap.now.elems.now c.args.scratch.now c.args.roots.now c.requires
 
-pub sweep-requires : goal.sweep-requires
-sweep-requires c = can_sweep c.args.words.now c.args.map.now c.args.bytes.now c.args.elems.now c.args.scratch.now c.args.roots.now c.requires (λ k. omega (arith, c.slice_known-2-1.given k)) _ c.mark.ensures
+pub mark_and_sweep-requires-clause-sweeps : goal.mark_and_sweep-requires-clause-sweeps
+mark_and_sweep-requires-clause-sweeps c = λ small. can_sweep c.args.heap.now.words.now c.args.heap.now.map.now c.args.heap.now.bytes.now c.args.heap.now.elems.now c.args.scratch.now c.args.roots.now c.requires small _ refl
 
 pub pack-requires : goal.pack-requires
-pack-requires c = (_, _, _, can_pack c.args.words.now c.args.map.now c.args.bytes.now c.args.elems.now c.args.scratch.now c.args.roots.now c.requires (λ k. omega (arith, c.slice_known-2-1.given k)) _ _ _ c.mark.ensures c.sweep.ensures)
+pack-requires c = (_, _, _, (pack_given c.args.heap.now.words.now c.args.heap.now.map.now c.args.heap.now.bytes.now c.args.heap.now.elems.now c.args.scratch.now c.args.roots.now c.requires c.mark_and_sweep.ensures.bytes _ _ _ _ refl c.mark_and_sweep.ensures.swept c.mark_and_sweep.ensures.elems_stay))
 
-pub returns : goal.returns
-returns c = record { elems_after = collects c.args.words.now c.args.map.now c.args.bytes.now c.args.elems.now c.args.scratch.now c.args.roots.now c.requires (λ k. omega (arith, c.slice_known-2-1.given k)) _ _ _ _ _ _ c.mark.ensures c.sweep.ensures (c.pack.ensures _ _ _ (can_pack c.args.words.now c.args.map.now c.args.bytes.now c.args.elems.now c.args.scratch.now c.args.roots.now c.requires (λ k. omega (arith, c.slice_known-2-1.given k)) _ _ _ c.mark.ensures c.sweep.ensures)); scratch_after = clears c.args.scratch.now c.mark.new.scratch _ c.mark.auto.scratch c.clear_words.ensures }
+pub returns-clause-elems_after : goal.returns-clause-elems_after
+returns-clause-elems_after c = (λ i. lists c.pack.new.heap.words.now (c.pack.ensures.map_stays i) c.pack.new.heap.bytes.now c.pack.new.heap.elems.now) ∙ collects c.args.heap.now.words.now c.args.heap.now.map.now c.args.heap.now.bytes.now c.args.heap.now.elems.now c.args.scratch.now c.args.roots.now c.requires c.mark_and_sweep.ensures.bytes _ _ _ _ _ _ refl c.mark_and_sweep.ensures.swept (c.pack.ensures.packed _ _ _ (pack_given c.args.heap.now.words.now c.args.heap.now.map.now c.args.heap.now.bytes.now c.args.heap.now.elems.now c.args.scratch.now c.args.roots.now c.requires c.mark_and_sweep.ensures.bytes _ _ _ _ refl c.mark_and_sweep.ensures.swept c.mark_and_sweep.ensures.elems_stay))
+
+pub returns-clause-scratch_after : goal.returns-clause-scratch_after
+returns-clause-scratch_after c = clears c.args.scratch.now c.mark_and_sweep.new.scratch _ c.mark_and_sweep.auto.scratch c.clear_words.ensures

@@ -1,13 +1,17 @@
--- `heap_eqv::same_slot`: two of a slot's kind with the same field. Assumes nothing.
+-- `heap_eqv::same_slot`: two slots by their numbers, and no scalar. Assumes nothing.
+use mathlib.Core.Path.{sym}
+use Rattle.rules.specs.Equal.{same_slot}
 use Rattle.leaf_cells.specs.Elements.{value_of}
-use Rattle.heap_eqv.proofs.WordLaws.{first_no_slot, second_no_slot, slots_same}
+use Rattle.leaf_cells.proofs.Variants.{other_value}
+use Rattle.heap_eqv.proofs.WordLaws.{first_no_slot, second_no_slot}
 use Rattle.heap_eqv.proofs.same_slot.Goals as goal
 
-pub returns-then-x-ne15 : goal.returns-then-x-ne15
-returns-then-x-ne15 c = first_no_slot c.value_words-x.result c.value_words-y.result (value_of c.args.v) (value_of c.args.w) c.value_words-x.ensures c.if-x-ne15.true
+pub returns-in-Slot-Slot : goal.returns-in-Slot-Slot
+unfolding same_slot
+returns-in-Slot-Slot c = λ j. same_slot (value_of (sym c.in-Slot-Slot.is-0 j)) (value_of (sym c.in-Slot-Slot.is-1 j))
 
-pub returns-then-y-ne15 : goal.returns-then-y-ne15
-returns-then-y-ne15 c = second_no_slot c.value_words-x.result c.value_words-y.result (value_of c.args.v) (value_of c.args.w) c.value_words-y.ensures c.if-y-ne15.true
+pub returns-in_default : goal.returns-in_default
+returns-in_default c = second_no_slot (value_of c.args.v) _ (other_value c.args.w c.in_default.not-Slot-1)
 
-pub returns : goal.returns
-returns c = slots_same c.value_words-x.result c.value_words-y.result (value_of c.args.v) (value_of c.args.w) c.value_words-x.ensures c.value_words-y.ensures c.if-x-ne15.false c.if-y-ne15.false
+pub returns-in_default-2 : goal.returns-in_default-2
+returns-in_default-2 c = first_no_slot _ (value_of c.args.w) (other_value c.args.v c.in_default.not-Slot-0)

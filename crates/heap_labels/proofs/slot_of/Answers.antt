@@ -3,10 +3,8 @@ use native.Mathlib.Omega.{arith}
 use Rattle.heap_labels.proofs.LabelLaws.{slot_there, slot_gone}
 use Rattle.heap_labels.proofs.slot_of.Goals as goal
 
--- src/lib.rt:25:1
-pub returns-then-i-count : goal.returns-then-i-count
-returns-then-i-count c = slot_there _ _ _ _ c.place_of-i.ensures (omega arith)
+pub returns-in-Some : goal.returns-in-Some
+returns-in-Some c = slot_there _ _ _ _ c.in-Some.ensures.place c.in-Some.ensures.within
 
--- src/lib.rt:25:1
-pub returns-else-i-count : goal.returns-else-i-count
-returns-else-i-count c = slot_gone _ _ _ _ c.place_of-i.ensures (omega arith)
+pub returns-in-None : goal.returns-in-None
+returns-in-None c = slot_gone _ _ _ _ c.in-None.ensures.place (omega arith)

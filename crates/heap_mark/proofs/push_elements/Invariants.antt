@@ -7,6 +7,3 @@ use Rattle.heap_mark.proofs.push_elements.Given as goal
 
 abbrev pub invariant-loop-j : goal.invariant-loop-j
 invariant-loop-j l = (l.j ≤ l.size) × Along (slots_among (values l.elems l.place l.j)) (slots_among (values l.elems (l.place + l.j) (l.size - l.j))) l.initial.map l.initial.scratch l.top l.map l.scratch l.height
-
-abbrev pub decreases-loop-j : goal.decreases-loop-j
-decreases-loop-j l = l.size - l.j

@@ -1,24 +1,13 @@
--- `heap_mark::roots_in_use`: what was to test is what is left to test. Assumes nothing.
-use native.Mathlib.Omega.{arith}
-use Prim.Native.Nat.{ℕ, ◌-◌}
-use mathlib.Core.List.{[]}
-use mathlib.Core.Path.{refl, sym, ap, ◌∙◌}
-use lib.ListN.{get_or}
+-- `heap_mark::roots_in_use`: the code's test of each root is the heap's. Assumes nothing.
+use Rattle.heap_mark.proofs.Roots.{roots_are}
 use Rattle.heap_sound_cells.specs.Looked.{used_slot}
-use Rattle.heap_sound_rows.specs.Rows.{lists}
-use Rattle.rules.specs.Layout.{heap_of}
-use Rattle.rules.specs.Heap.{in_use}
-use Rattle.heap_mark.proofs.Roots.{in_use_is, every_on, every_stops, every_ends}
+use lib.ListN.{get_or}
+use Rattle.std.proofs.Common.{rules, tests, ◌∙◌}
+use Rattle.std.proofs.lemmas.Iterator.{YieldsList-from_slice}
+use Rattle.std.proofs.lemmas.Iterator.Search.{all_from_yields_List}
 use Rattle.heap_mark.proofs.roots_in_use.Goals as goal
 
-pub loop-i-init : goal.loop-i-init
-loop-i-init c = (omega arith, refl, refl)
-
-pub returns-then-not-in_use : goal.returns-then-not-in_use
-returns-then-not-in_use c = every_stops (in_use (heap_of (lists c.args.words.now c.args.map.now [] []))) c.args.roots.now c.loop-i.i c.loop-i-test.true (sym (in_use_is c.args.words.now c.args.map.now c.requires.words_value _) ∙ ap (λ (n : ℕ). used_slot n c.args.map.now (get_or c.args.roots.now c.loop-i.i 0)) (sym c.loop-i.invariant.1) ∙ sym c.in_use.ensures ∙ c.if-not-in_use.true) ∙ sym c.loop-i.invariant.2
-
-pub loop-i-preserved : goal.loop-i-preserved
-loop-i-preserved c = (omega arith, c.loop-i.invariant.1, c.loop-i.invariant.2 ∙ every_on (in_use (heap_of (lists c.args.words.now c.args.map.now [] []))) c.args.roots.now c.loop-i.i c.loop-i-test.true (sym (in_use_is c.args.words.now c.args.map.now c.requires.words_value _) ∙ ap (λ (n : ℕ). used_slot n c.args.map.now (get_or c.args.roots.now c.loop-i.i 0)) (sym c.loop-i.invariant.1) ∙ sym c.in_use.ensures ∙ c.if-not-in_use.false))
-
 pub returns : goal.returns
-returns c = every_ends (in_use (heap_of (lists c.args.words.now c.args.map.now [] []))) c.args.roots.now c.loop-i.i c.loop-i-test.false ∙ sym c.loop-i.invariant.2
+returns c =
+    all_from_yields_List (used_slot (get_or c.args.words.now 1 0) c.args.map.now) _ _ _ c.all.ensures.ran (YieldsList-from_slice c.args.roots.now cc) (λ x b q k. search (rules, tests))
+    ∙ roots_are c.args.words.now c.args.map.now c.requires.words_value c.args.roots.now

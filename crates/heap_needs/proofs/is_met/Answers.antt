@@ -1,27 +1,23 @@
--- `heap_needs::is_met`: the name is among the rows below, or in none above. Assumes nothing.
-use Prim.Native.Nat.{◌-◌}
-use native.Mathlib.Omega.{arith}
-use mathlib.Core.Path.{refl, sym, ◌∙◌}
+-- `heap_needs::is_met`: the name is among those left, or among none. Assumes nothing.
+use Rattle.std.proofs.Common.{sym, refl, ◌∙◌}
 use Rattle.heap_needs.proofs.NameLaws.{other_scope, other_text, here, none_met}
+use Rattle.heap_needs.proofs.is_met.Goals.{else-n-scope-via-else-n-scope, else-n-scope-via-then-n-scope+else-same}
 use Rattle.heap_needs.proofs.is_met.Goals as goal
 
-pub loop-i-init : goal.loop-i-init
-loop-i-init c = (omega arith, refl)
-
-pub overflow_add-end-then-keys-row : goal.overflow_add-end-then-keys-row
-overflow_add-end-then-keys-row c = omega (arith, c.requires.within (c.loop-i.i - 1) (omega arith))
-
-pub slice_bounds-same-end : goal.slice_bounds-same-end
-slice_bounds-same-end c = omega (arith, c.requires.within (c.loop-i.i - 1) (omega arith))
-
 pub returns-then-same : goal.returns-then-same
-returns-then-same c = sym (c.loop-i.invariant.1 ∙ here c.args.keys.now c.args.datum.now c.args.name.now c.args.scope c.loop-i.i (omega arith) c.if-keys-row.true (sym c.same.ensures ∙ c.if-same.true))
+returns-then-same c =
+    let l = c.loop-n in
+    sym (l.invariant ∙ here c.args.names.now c.args.datum.now c.args.name.now c.args.scope l.n-index _ _ c.loop-n-test.true refl c.if-n-scope.true (sym c.same.ensures ∙ c.if-same.true))
 
-pub loop-i-preserved-else-same : goal.loop-i-preserved-else-same
-loop-i-preserved-else-same c = (omega arith, c.loop-i.invariant.1 ∙ other_text c.args.keys.now c.args.datum.now c.args.name.now c.args.scope c.loop-i.i (omega arith) c.if-keys-row.true (sym c.same.ensures ∙ c.if-same.false))
-
-pub loop-i-preserved : goal.loop-i-preserved
-loop-i-preserved c = (omega arith, c.loop-i.invariant.1 ∙ other_scope _ _ _ _ c.loop-i.i (omega arith) c.if-keys-row.false)
+pub loop-n-preserved : goal.loop-n-preserved
+loop-n-preserved c =
+    let l = c.loop-n in
+    elim c.else-n-scope.branch [
+      | else-n-scope-via-else-n-scope w ↦
+          l.invariant ∙ other_scope c.args.names.now c.args.datum.now c.args.name.now c.args.scope l.n-index _ _ c.loop-n-test.true refl w.if-n-scope.false
+      | else-n-scope-via-then-n-scope+else-same w ↦
+          l.invariant ∙ other_text c.args.names.now c.args.datum.now c.args.name.now c.args.scope l.n-index _ _ c.loop-n-test.true refl w.if-n-scope.true (sym w.same.ensures ∙ w.if-same.false)
+    ]
 
 pub returns : goal.returns
-returns c = sym (c.loop-i.invariant.1 ∙ none_met _ _ _ _ c.loop-i.i (omega arith))
+returns c = sym (c.loop-n.invariant ∙ none_met c.args.names.now c.args.datum.now c.args.name.now c.args.scope c.loop-n.n-index c.loop-n-test.false)

@@ -1,8 +1,7 @@
 -- `heap_needs::needs`: at the end nothing is left to do. Assumes nothing.
-use Rattle.heap_needs.proofs.StackLaws.{empty_clear, empty_long}
+use Rattle.heap_needs.proofs.StackLaws.{empty_clear}
 use mathlib.Core.Path.{ap, refl}
 use native.Mathlib.Omega.{arith}
-use Prim.Native.Nat.{◌-◌}
 use Rattle.heap_needs.specs.Pass.{known_in, needed}
 use Rattle.heap_needs.proofs.PassLaws.{under_begins, under_going, under_on, under_ends}
 use Rattle.heap_needs.proofs.needs.Goals as goal
@@ -11,7 +10,7 @@ pub start-t-requires : goal.start-t-requires
 start-t-requires c = empty_clear _ 4096 refl refl
 
 pub loop-t-init : goal.loop-t-init
-loop-t-init c = under_begins (known_in c.args.words.now c.args.bytes.now) c.args.datum.now _ _ c.start-t.result c.requires.datum_there (empty_long _ 12288 refl) c.start-t.ensures
+loop-t-init c = under_begins (known_in c.args.words.now c.args.bytes.now) c.args.datum.now _ _ c.start-t.result c.requires.datum_there c.new-names.ensures c.start-t.ensures
 
 pub turn-t-requires : goal.turn-t-requires
 turn-t-requires c = record { lent = c.requires.lent; top_nonzero = omega arith; going = under_going (known_in c.args.words.now c.args.bytes.now) c.args.datum.now c.loop-t.invariant }

@@ -4,7 +4,7 @@ use lib.ListN.{get_or}
 use native.Mathlib.Omega.{arith}
 use Rattle.rules.specs.Heap.{most_growths}
 use Rattle.heap_needs.specs.Lacks.{lent_slots}
-use Rattle.heap_needs.proofs.LackLaws.{short_slots, short_bytes, short_elements, short_none}
+use Rattle.heap_needs.proofs.LackLaws.{short_slots, short_room, short_none}
 use Rattle.heap_needs.proofs.short.Goals as goal
 
 pub overflow_add-free : goal.overflow_add-free
@@ -14,10 +14,7 @@ pub returns-then-free-most : goal.returns-then-free-most
 returns-then-free-most c = short_slots c.args.words.now c.args.needed c.args.bytes c.args.elements (omega (arith, c.fitting-most.ensures))
 
 pub returns-then-text_room-needed : goal.returns-then-text_room-needed
-returns-then-text_room-needed c = short_bytes c.args.words.now c.args.needed c.args.bytes c.args.elements c.requires (omega (arith, c.fitting-most.ensures)) (omega arith)
-
-pub returns-then-room-needed : goal.returns-then-room-needed
-returns-then-room-needed c = short_elements c.args.words.now c.args.needed c.args.bytes c.args.elements c.requires (omega (arith, c.fitting-most.ensures)) (omega arith) (omega arith)
+returns-then-text_room-needed c = short_room c.args.words.now c.args.needed c.args.bytes c.args.elements c.requires (omega (arith, c.fitting-most.ensures)) c.then-text_room-needed.either
 
 pub returns : goal.returns
 returns c = short_none c.args.words.now c.args.needed c.args.bytes c.args.elements c.requires (omega (arith, c.fitting-most.ensures)) (omega arith) (omega arith)

@@ -1,6 +1,5 @@
 -- `heap_pack::element_turns`: each turn takes the pass one slot on. Assumes nothing.
-use mathlib.Core.Path.{refl, ◌∙◌}
-use Prim.Native.Nat.{◌-◌}
+use mathlib.Core.Path.{refl}
 use native.Mathlib.Omega.{arith}
 use Rattle.heap_pack.proofs.TextLaws.{header_in}
 use Rattle.heap_pack.proofs.ElementLaws.{so_far_none, so_far_ready, so_far_on, so_far_ends}
@@ -10,25 +9,13 @@ pub bounds-words-1 : goal.bounds-words-1
 bounds-words-1 c = omega (arith, header_in c.requires.0 c.requires.1 c.args.words.now c.requires.3.words_are)
 
 pub loop-s-init : goal.loop-s-init
-loop-s-init c = (refl, (refl, (refl, (refl, so_far_none c.args.words.now c.args.elems.now c.args.old.now c.args.table.now))))
+loop-s-init c = (refl, so_far_none c.args.words.now c.args.elems.now c.args.old.now c.args.table.now)
 
 pub pack_elements-at-requires : goal.pack_elements-at-requires
-pack_elements-at-requires c = so_far_ready c.args.words.now c.args.elems.now c.args.old.now c.args.table.now c.loop-s.words c.loop-s.elems c.loop-s.table c.loop-s.at c.loop-s.s c.loop-s.invariant.1.1.1.1 c.requires.0 c.requires.1 c.requires.2 c.requires.3 (omega (arith, c.loop-s.invariant.0, c.loop-s-test.true))
-
-pub overflow_add-s : goal.overflow_add-s
-overflow_add-s c = omega (arith, c.loop-s-test.true, c.loop-s.invariant.0, c.type_inv.words 1)
+pack_elements-at-requires c = so_far_ready c.args.words.now c.args.elems.now c.args.old.now c.args.table.now c.loop-s.words c.loop-s.elems c.loop-s.table c.loop-s.at c.loop-s.s c.loop-s.invariant.1 c.requires.0 c.requires.1 c.requires.2 c.requires.3 (omega (arith, c.loop-s.invariant.0, c.loop-s-test.true))
 
 pub loop-s-preserved : goal.loop-s-preserved
-loop-s-preserved c = (c.loop-s.invariant.0, (c.pack_elements-at.auto.words ∙ c.loop-s.invariant.1.0, (c.pack_elements-at.auto.elems ∙ c.loop-s.invariant.1.1.0, (c.pack_elements-at.auto.table ∙ c.loop-s.invariant.1.1.1.0, so_far_on c.args.words.now c.args.elems.now c.args.old.now c.args.table.now c.loop-s.words c.loop-s.elems c.loop-s.table c.loop-s.at c.loop-s.s c.loop-s.invariant.1.1.1.1 _ _ _ _ (omega (arith, c.loop-s.invariant.0, c.loop-s-test.true)) c.pack_elements-at.ensures))))
-
-pub shape_of-words : goal.shape_of-words
-shape_of-words c = c.loop-s.invariant.1.0
-
-pub shape_of-elems : goal.shape_of-elems
-shape_of-elems c = c.loop-s.invariant.1.1.0
-
-pub shape_of-table : goal.shape_of-table
-shape_of-table c = c.loop-s.invariant.1.1.1.0
+loop-s-preserved c = (c.loop-s.invariant.0, so_far_on c.args.words.now c.args.elems.now c.args.old.now c.args.table.now c.loop-s.words c.loop-s.elems c.loop-s.table c.loop-s.at c.loop-s.s c.loop-s.invariant.1 _ _ _ _ (omega (arith, c.loop-s.invariant.0, c.loop-s-test.true)) c.pack_elements-at.ensures)
 
 pub returns : goal.returns
-returns c = so_far_ends c.args.words.now c.args.elems.now c.args.old.now c.args.table.now c.loop-s.words c.loop-s.elems c.loop-s.table c.loop-s.at c.loop-s.s c.loop-s.invariant.1.1.1.1 (omega (arith, c.loop-s.invariant.0, c.loop-s-test.false))
+returns c = so_far_ends c.args.words.now c.args.elems.now c.args.old.now c.args.table.now c.loop-s.words c.loop-s.elems c.loop-s.table c.loop-s.at c.loop-s.s c.loop-s.invariant.1 (omega (arith, c.loop-s.invariant.0, c.loop-s-test.false))

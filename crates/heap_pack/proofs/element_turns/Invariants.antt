@@ -1,12 +1,8 @@
 -- `heap_pack::element_turns`: each turn takes the pass one slot on. Assumes nothing.
 use mathlib.Core.Path.{◌≡◌}
-use Prim.Native.Nat.{◌-◌}
-use lib.ListN.{length, get_or}
+use lib.ListN.{get_or}
 use Rattle.heap_pack.proofs.ElementLaws.{SoFar}
 use Rattle.heap_pack.proofs.element_turns.Given as goal
 
 abbrev pub invariant-loop-s : goal.invariant-loop-s
-invariant-loop-s l = (l.capacity ≡ get_or l.initial.words 1 0) × ((length l.words ≡ length l.initial.words) × ((length l.elems ≡ length l.initial.elems) × ((length l.table ≡ length l.initial.table) × SoFar l.initial.words l.initial.elems l.old l.initial.table l.words l.elems l.table l.at l.s)))
-
-abbrev pub decreases-loop-s : goal.decreases-loop-s
-decreases-loop-s l = l.capacity - l.s
+invariant-loop-s l = (l.capacity ≡ get_or l.initial.words 1 0) × SoFar l.initial.words l.initial.elems l.old l.initial.table l.words l.elems l.table l.at l.s

@@ -9,8 +9,8 @@ overflow_cast-known c = record { fits = omega (arith, c.type_inv.table c.args.pl
 pub returns-then-known-gt0 : goal.returns-then-known-gt0
 returns-then-known-gt0 c = text_known c.args.bytes.now c.args.old.now c.args.table.now c.args.at c.args.place c.args.size c.if-known-gt0.true
 
-pub write_bytes-requires : goal.write_bytes-requires
-write_bytes-requires c = part_fits c.args.bytes.now c.args.old.now c.args.at c.args.place c.args.size c.requires.inside (c.requires.fits (omega (arith, c.if-known-gt0.false)))
+pub write-requires : goal.write-requires
+write-requires c = part_fits c.args.bytes.now c.args.old.now c.args.at c.args.place c.args.size c.requires.inside (c.requires.fits (omega (arith, c.if-known-gt0.false)))
 
 pub returns : goal.returns
-returns c = text_new c.args.bytes.now c.args.old.now c.args.table.now c.args.at c.args.place c.args.size _ (omega (arith, c.if-known-gt0.false)) c.requires.inside (c.requires.fits (omega (arith, c.if-known-gt0.false))) c.write_bytes.ensures
+returns c = text_new c.args.bytes.now c.args.old.now c.args.table.now c.args.at c.args.place c.args.size _ (omega (arith, c.if-known-gt0.false)) c.requires.inside (c.requires.fits (omega (arith, c.if-known-gt0.false))) c.write.ensures

@@ -1,37 +1,10 @@
--- `heap_pack::vector_block`: case by case. Assumes nothing.
+-- `heap_pack::vector_block`: a vector's, or none. Assumes nothing.
 use mathlib.Core.Path.{sym, ap, ◌∙◌}
-use Rattle.heap_pack.proofs.CellLaws.{vector_span, vector_span_is}
+use Rattle.heap_pack.proofs.CellLaws.{vector_span, vector_span_is, no_vector_block}
 use Rattle.heap_pack.proofs.vector_block.Goals as goal
 
 pub returns-in-Vector : goal.returns-in-Vector
 returns-in-Vector c = sym (ap vector_span c.in-Vector.is) ∙ vector_span_is c.args.c
 
-pub returns-in-Undefined : goal.returns-in-Undefined
-returns-in-Undefined c = sym (ap vector_span c.in-Undefined.is) ∙ vector_span_is c.args.c
-
-pub returns-in-Nil : goal.returns-in-Nil
-returns-in-Nil c = sym (ap vector_span c.in-Nil.is) ∙ vector_span_is c.args.c
-
-pub returns-in-Eof : goal.returns-in-Eof
-returns-in-Eof c = sym (ap vector_span c.in-Eof.is) ∙ vector_span_is c.args.c
-
-pub returns-in-Void : goal.returns-in-Void
-returns-in-Void c = sym (ap vector_span c.in-Void.is) ∙ vector_span_is c.args.c
-
-pub returns-in-Bool : goal.returns-in-Bool
-returns-in-Bool c = sym (ap vector_span c.in-Bool.is) ∙ vector_span_is c.args.c
-
-pub returns-in-Char : goal.returns-in-Char
-returns-in-Char c = sym (ap vector_span c.in-Char.is) ∙ vector_span_is c.args.c
-
-pub returns-in-Number : goal.returns-in-Number
-returns-in-Number c = sym (ap vector_span c.in-Number.is) ∙ vector_span_is c.args.c
-
-pub returns-in-Pair : goal.returns-in-Pair
-returns-in-Pair c = sym (ap vector_span c.in-Pair.is) ∙ vector_span_is c.args.c
-
-pub returns-in-Symbol : goal.returns-in-Symbol
-returns-in-Symbol c = sym (ap vector_span c.in-Symbol.is) ∙ vector_span_is c.args.c
-
-pub returns-in-String : goal.returns-in-String
-returns-in-String c = sym (ap vector_span c.in-String.is) ∙ vector_span_is c.args.c
+pub returns-in_default : goal.returns-in_default
+returns-in_default c = no_vector_block c.args.c c.in_default.not-Vector c.default.result c.default.ensures

@@ -1,8 +1,9 @@
 -- The cycle of `heap_put`: datum, pair, vector and label, with what is left of the datum falling.
-use Rattle.std.proofs.Common.{◌-◌, ◌≡◌, ◌+◌, ◌*◌, length, ℕ, List}
+use Rattle.std.proofs.Common.{◌≡◌, ◌+◌, ◌*◌, length, ℕ, List}
 use Rattle.rules.specs.Datum.{Data}
 use Rattle.rules.specs.Layout.{Rooms}
 use Rattle.rules.specs.Put.{Making}
+use Rattle.leaf_lists.specs.Lists.{SameLists}
 use Rattle.heap_atoms.specs.Tasks.{AllTask}
 use Rattle.heap_put.proofs.Cycle.{Going}
 use Rattle.heap_put.proofs.+putting.Given as goal
@@ -31,13 +32,7 @@ decreases-put_vector l = 8 * length l.datum.now + 3
 abbrev pub invariant-put_elements-loop-i : goal.invariant-put_elements-loop-i
 invariant-put_elements-loop-i l =
     record {
-      words_same : length l.words ≡ length l.initial.words;
-      map_same : length l.map ≡ length l.initial.map;
-      bytes_same : length l.bytes ≡ length l.initial.bytes;
-      elems_same : length l.elems ≡ length l.initial.elems;
+      same : SameLists l.initial.heap l.heap;
       labels_same : length l.labels ≡ length l.initial.labels;
-      going : (r : Rooms) (f : ℕ) (m : Making) (ds : Data) (rest : List ℕ) → AllTask r f m ds rest l.place l.n l.count l.datum l.initial.words l.initial.map l.initial.bytes l.initial.elems l.initial.labels → Going r f m ds rest l.place l.n l.datum l.at l.known l.i l.words l.map l.bytes l.elems l.labels;
+      going : (r : Rooms) (f : ℕ) (m : Making) (ds : Data) (rest : List ℕ) → AllTask r f m ds rest l.place l.n l.count l.datum l.initial.heap.words.now l.initial.heap.map.now l.initial.heap.bytes.now l.initial.heap.elems.now l.initial.labels → Going r f m ds rest l.place l.n l.datum l.at l.known l.i l.heap.words.now l.heap.map.now l.heap.bytes.now l.heap.elems.now l.labels;
     }
-
-abbrev pub decreases-put_elements-loop-i : goal.decreases-put_elements-loop-i
-decreases-put_elements-loop-i l = l.n - l.i

@@ -1,7 +1,7 @@
 -- `heap_put_whole::put`: the scratch cleared after the put. Assumes nothing.
-use Rattle.heap_sound_rows.specs.Rows.{lists}
+use Rattle.leaf_lists.specs.Lists.{held}
 use Rattle.heap_put_whole.proofs.WholeLaws.{cleared_left}
 use Rattle.heap_put_whole.proofs.put.Goals as goal
 
-pub returns : goal.returns
-returns c = cleared_left (lists c.args.words.now c.args.map.now c.args.bytes.now c.args.elems.now) _ _ c.put_any-a.new.scratch _ _ _ c.put_any-a.ensures c.clear_words.ensures c.put_any-a.auto.scratch
+pub returns-clause-put : goal.returns-clause-put
+returns-clause-put c = cleared_left (held c.args.heap.now) _ _ c.put_any-answer.new.scratch _ _ _ c.put_any-answer.ensures.outcome c.clear_words.ensures c.put_any-answer.auto.scratch

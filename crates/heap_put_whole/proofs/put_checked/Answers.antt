@@ -1,22 +1,40 @@
 -- `heap_put_whole::put_checked`: what the needs and their tests tell, and the put. Assumes nothing.
-use Rattle.heap_sound_rows.specs.Rows.{lists}
-use Rattle.heap_put_whole.proofs.WholeLaws.{needs_open, short_open, there, told, task, slot_left, no_slots_left, no_room_left}
+use Rattle.std.proofs.Common.{arith}
+use Rattle.leaf_lists.specs.Lists.{lent_of, held}
+use Rattle.heap_put_whole.proofs.WholeLaws.{needs_open, short_open, there, told, task, slot_left, lack_left}
 use Rattle.heap_put_whole.proofs.put_checked.Goals as goal
 
 pub needs-needed-requires : goal.needs-needed-requires
-needs-needed-requires c = record { lent = needs_open (lists c.args.words.now c.args.map.now c.args.bytes.now c.args.elems.now) c.args.scratch.now c.requires.ready; datum_there = there (lists c.args.words.now c.args.map.now c.args.bytes.now c.args.elems.now) c.args.scratch.now c.requires.ready c.args.datum.now c.requires.accepted }
+needs-needed-requires c =
+    let l = held c.args.heap.now in
+    let r = c.requires in
+    record {
+      lent = needs_open l c.args.scratch.now r.ready (lent_of c.lists-lent.result) c.lists-lent.ensures;
+      datum_there = there l c.args.scratch.now r.ready c.args.datum.now r.accepted;
+    }
 
-pub short-lack-requires : goal.short-lack-requires
-short-lack-requires c = short_open (lists c.args.words.now c.args.map.now c.args.bytes.now c.args.elems.now) c.args.scratch.now c.requires.ready
+pub short-requires : goal.short-requires
+short-requires c =
+    short_open (held c.args.heap.now) c.args.scratch.now c.requires.ready (lent_of c.lists-lent.result) c.lists-lent.ensures
 
 pub put_in_slot-p-requires : goal.put_in_slot-p-requires
-put_in_slot-p-requires c = (_, _, _, _, _, task (lists c.args.words.now c.args.map.now c.args.bytes.now c.args.elems.now) c.args.scratch.now c.requires.ready c.args.datum.now c.requires.accepted c.short-lack.result c.in-Nothing.is (told (lists c.args.words.now c.args.map.now c.args.bytes.now c.args.elems.now) c.args.scratch.now c.requires.ready c.args.datum.now c.requires.accepted c.needs-needed.result c.short-lack.result c.needs-needed.ensures c.short-lack.ensures))
+put_in_slot-p-requires c =
+    let l = held c.args.heap.now in
+    let r = c.requires in
+    let t = told l c.args.scratch.now r.ready c.args.datum.now r.accepted _ c.lists-lent.ensures c.needs-needed.result c.short.result c.needs-needed.ensures c.short.ensures in
+    (_, _, _, _, _, task l c.args.scratch.now r.ready c.args.datum.now r.accepted c.short.result c.in_ok-short.was t)
 
-pub returns-in-Nothing : goal.returns-in-Nothing
-returns-in-Nothing c = slot_left (lists c.args.words.now c.args.map.now c.args.bytes.now c.args.elems.now) c.args.scratch.now c.requires.ready c.args.datum.now c.requires.accepted c.short-lack.result c.in-Nothing.is (told (lists c.args.words.now c.args.map.now c.args.bytes.now c.args.elems.now) c.args.scratch.now c.requires.ready c.args.datum.now c.requires.accepted c.needs-needed.result c.short-lack.result c.needs-needed.ensures c.short-lack.ensures) _ _ _ _ _ _ _ _ (c.put_in_slot-p.ensures _ _ _ _ _ (task (lists c.args.words.now c.args.map.now c.args.bytes.now c.args.elems.now) c.args.scratch.now c.requires.ready c.args.datum.now c.requires.accepted c.short-lack.result c.in-Nothing.is (told (lists c.args.words.now c.args.map.now c.args.bytes.now c.args.elems.now) c.args.scratch.now c.requires.ready c.args.datum.now c.requires.accepted c.needs-needed.result c.short-lack.result c.needs-needed.ensures c.short-lack.ensures)))
+pub returns-clause-outcome : goal.returns-clause-outcome
+returns-clause-outcome c =
+    let l = held c.args.heap.now in
+    let r = c.requires in
+    let t = told l c.args.scratch.now r.ready c.args.datum.now r.accepted _ c.lists-lent.ensures c.needs-needed.result c.short.result c.needs-needed.ensures c.short.ensures in
+    slot_left l c.args.scratch.now r.ready c.args.datum.now r.accepted c.short.result c.in_ok-short.was t _ _ _ _ _ _ _ _
+    (c.put_in_slot-p.ensures.done _ _ _ _ _ (task l c.args.scratch.now r.ready c.args.datum.now r.accepted c.short.result c.in_ok-short.was t))
 
-pub returns-in-Slots : goal.returns-in-Slots
-returns-in-Slots c = no_slots_left (lists c.args.words.now c.args.map.now c.args.bytes.now c.args.elems.now) c.args.scratch.now c.requires.ready c.args.datum.now c.requires.accepted c.short-lack.result c.in-Slots.is (told (lists c.args.words.now c.args.map.now c.args.bytes.now c.args.elems.now) c.args.scratch.now c.requires.ready c.args.datum.now c.requires.accepted c.needs-needed.result c.short-lack.result c.needs-needed.ensures c.short-lack.ensures)
-
-pub returns-in-Room : goal.returns-in-Room
-returns-in-Room c = no_room_left (lists c.args.words.now c.args.map.now c.args.bytes.now c.args.elems.now) c.args.scratch.now c.requires.ready c.args.datum.now c.requires.accepted c.short-lack.result c.in-Room.is (told (lists c.args.words.now c.args.map.now c.args.bytes.now c.args.elems.now) c.args.scratch.now c.requires.ready c.args.datum.now c.requires.accepted c.needs-needed.result c.short-lack.result c.needs-needed.ensures c.short-lack.ensures)
+pub returns-in_err-short-clause-outcome : goal.returns-in_err-short-clause-outcome
+returns-in_err-short-clause-outcome c =
+    let l = held c.args.heap.now in
+    let r = c.requires in
+    let t = told l c.args.scratch.now r.ready c.args.datum.now r.accepted _ c.lists-lent.ensures c.needs-needed.result c.short.result c.needs-needed.ensures c.short.ensures in
+    lack_left l c.args.scratch.now r.ready c.args.datum.now r.accepted c.short.result c.in_err-short.field-0.0 c.in_err-short.was t (grind arith)

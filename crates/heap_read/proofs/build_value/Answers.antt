@@ -11,17 +11,8 @@ build-requires c = (_, slot_task _ _ _ _ _ _ _ _ _ c.requires.3 _ c.in-Slot.is)
 pub scalar-requires : goal.scalar-requires
 scalar-requires c = let x = other_value c.args.v c.in_default.not-Slot in (omega arith, (x.plain, value_scalar _ c.args.v _ c.value_words.ensures x.is))
 
-pub shape_of-marks : goal.shape_of-marks
-shape_of-marks c = c.build.auto.marks
-
-pub shape_of-out-in-Slot : goal.shape_of-out-in-Slot
-shape_of-out-in-Slot c = c.build.auto.out
-
 pub returns-in-Slot : goal.returns-in-Slot
 returns-in-Slot c = λ r h labels k. slot_value r h labels c.args.v _ _ _ _ _ k _ c.in-Slot.is _ _ _ (c.build.ensures _ (slot_task r h labels c.args.v _ _ _ _ _ k _ c.in-Slot.is))
-
-pub shape_of-out-in_default : goal.shape_of-out-in_default
-shape_of-out-in_default c = c.scalar.auto.out
 
 pub returns-in_default : goal.returns-in_default
 returns-in_default c = λ r h labels k. let x = other_value c.args.v c.in_default.not-Slot in scalar_value r h labels c.args.v _ _ _ _ _ k x.plain x.is _ _ (c.scalar.ensures x.plain (value_scalar _ c.args.v _ c.value_words.ensures x.is))

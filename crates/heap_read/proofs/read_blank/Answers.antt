@@ -2,9 +2,6 @@
 use Rattle.heap_read.proofs.ReadLaws.{label_task, many_answer, marked_task}
 use Rattle.heap_read.proofs.read_blank.Goals as goal
 
-pub label-count-requires : goal.label-count-requires
-label-count-requires c = (_, _, label_task _ _ _ _ _ _ _ c.requires.2)
-
 pub returns-then-count-gt64 : goal.returns-then-count-gt64
 returns-then-count-gt64 c = λ r h k. many_answer r h _ _ _ _ _ k _ _ (c.label-count.ensures _ _ (label_task r h _ _ _ _ _ k)) c.if-count-gt64.true _
 

@@ -1,12 +1,12 @@
 -- `heap_sound_cells::named`: a slot, or not. Assumes nothing.
 use Rattle.heap_sound_cells.proofs.PlainLaws.{slot_named, scalar_named}
-use mathlib.Core.Path.{◌∙◌}
+use borrow.Author.Tests.{ne_eqb}
+use mathlib.Core.Bool.{not}
+use mathlib.Core.Path.{ap, ◌∙◌}
 use Rattle.heap_sound_cells.proofs.named.Goals as goal
 
--- src/lib.rt:97:9
-pub returns-then-kind-eq15 : goal.returns-then-kind-eq15
-returns-then-kind-eq15 c = c.in_use.ensures ∙ slot_named c.args.kind c.args.a c.args.capacity c.args.map.now c.if-kind-eq15.true
+pub returns-then-kind-ne15 : goal.returns-then-kind-ne15
+returns-then-kind-ne15 c = ap not (ne_eqb _ 15 c.if-kind-ne15.true) ∙ scalar_named c.args.kind c.args.a c.args.capacity c.args.map.now c.if-kind-ne15.true
 
--- src/lib.rt:93:1
-pub returns : goal.returns
-returns c = scalar_named c.args.kind c.args.a c.args.capacity c.args.map.now c.if-kind-eq15.false
+pub returns-else-kind-ne15 : goal.returns-else-kind-ne15
+returns-else-kind-ne15 c = c.in_use.ensures ∙ slot_named c.args.kind c.args.a c.args.capacity c.args.map.now c.if-kind-ne15.false

@@ -1,35 +1,27 @@
 -- `heap_sound_cells::plain_good`: kind by kind. Assumes nothing.
 use Rattle.heap_sound_cells.proofs.PlainLaws.{char_good, string_good, symbol_good, pair_good, vector_good, other_good}
-use Rattle.heap_sound_cells.specs.Looked.{used_slot}
-use Rattle.laws.proofs.Checks.{pass, fail}
-use mathlib.Core.Bool.{false}
-use mathlib.Core.Path.{sym, ◌∙◌}
+use borrow.Author.Rules.{rules}
+use mathlib.Core.Path.{◌∙◌}
+use native.Mathlib.Omega.{arith}
 use Rattle.heap_sound_cells.proofs.plain_good.Goals as goal
 
--- src/lib.rt:31:9
-pub returns-then-kind-eq5 : goal.returns-then-kind-eq5
-returns-then-kind-eq5 c = c.is_scalar_value.ensures ∙ char_good c.args.capacity c.args.map.now c.args.kind c.args.a c.args.b c.if-kind-eq5.true
+pub returns-in-5 : goal.returns-in-5
+returns-in-5 c = c.is_scalar_value.ensures ∙ char_good c.args.capacity c.args.map.now c.args.kind c.args.a c.args.b c.in-5.is
 
--- src/lib.rt:34:9
-pub returns-then-kind-eq7 : goal.returns-then-kind-eq7
-returns-then-kind-eq7 c = string_good c.args.capacity c.args.map.now c.args.kind c.args.a c.args.b c.if-kind-eq7.true
+pub returns-in-7 : goal.returns-in-7
+returns-in-7 c = string_good c.args.capacity c.args.map.now c.args.kind c.args.a c.args.b c.in-7.is
 
--- src/lib.rt:37:9
-pub returns-then-kind-eq8 : goal.returns-then-kind-eq8
-returns-then-kind-eq8 c = symbol_good c.args.capacity c.args.map.now c.args.kind c.args.a c.args.b c.if-kind-eq8.true
+pub returns-in-8 : goal.returns-in-8
+returns-in-8 c = symbol_good c.args.capacity c.args.map.now c.args.kind c.args.a c.args.b c.in-8.is
 
--- src/lib.rt:41:13
-pub returns-then-not-in_use : goal.returns-then-not-in_use
-returns-then-not-in_use c = pair_good c.args.capacity c.args.map.now c.args.kind c.args.a c.args.b false c.if-kind-eq9.true (fail (used_slot c.args.capacity c.args.map.now c.args.a) _ (sym c.in_use.ensures ∙ c.if-not-in_use.true))
+pub returns-then-in_use : goal.returns-then-in_use
+returns-then-in_use c = pair_good c.args.capacity c.args.map.now c.args.kind c.args.a c.args.b _ c.in-9.is (search rules)
 
--- src/lib.rt:43:9
-pub returns-then-kind-eq9 : goal.returns-then-kind-eq9
-returns-then-kind-eq9 c = pair_good c.args.capacity c.args.map.now c.args.kind c.args.a c.args.b _ c.if-kind-eq9.true (pass (sym c.in_use.ensures ∙ c.if-not-in_use.false) c.in_use-then-kind-eq9.ensures)
+pub returns-else-in_use : goal.returns-else-in_use
+returns-else-in_use c = pair_good c.args.capacity c.args.map.now c.args.kind c.args.a c.args.b _ c.in-9.is (search rules)
 
--- src/lib.rt:46:9
-pub returns-then-kind-eq10 : goal.returns-then-kind-eq10
-returns-then-kind-eq10 c = vector_good c.args.capacity c.args.map.now c.args.kind c.args.a c.args.b c.if-kind-eq10.true
+pub returns-in-10 : goal.returns-in-10
+returns-in-10 c = vector_good c.args.capacity c.args.map.now c.args.kind c.args.a c.args.b c.in-10.is
 
--- src/lib.rt:27:1
-pub returns : goal.returns
-returns c = other_good c.args.capacity c.args.map.now c.args.kind c.args.a c.args.b c.if-kind-eq5.false c.if-kind-eq7.false c.if-kind-eq8.false c.if-kind-eq9.false c.if-kind-eq10.false
+pub returns-in_default : goal.returns-in_default
+returns-in_default c = other_good c.args.capacity c.args.map.now c.args.kind c.args.a c.args.b (λ e. omega (arith, e)) (λ e. omega (arith, e)) (λ e. omega (arith, e)) (λ e. omega (arith, e)) (λ e. omega (arith, e))

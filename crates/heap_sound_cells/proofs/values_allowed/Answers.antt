@@ -1,24 +1,20 @@
--- `heap_sound_cells::values_allowed`: what was to test is what is left to test. Assumes nothing.
+-- `heap_sound_cells::values_allowed`: those before were found good. Assumes nothing.
 use Rattle.heap_sound_cells.specs.Looked.{value_at}
 use Rattle.rules.specs.Sound.{value_allowed}
 use Prim.Native.Nat.{ℕ}
-use Rattle.laws.proofs.Checks.{down_on, down_stops, down_ends}
-use mathlib.Core.Path.{refl, sym, ◌∙◌}
+use Rattle.heap_sound_rows.proofs.UpLaws.{up_starts, up_on, up_stops, up_ends}
+use mathlib.Core.Path.{sym, ◌∙◌}
 use native.Mathlib.Omega.{arith}
 use Rattle.heap_sound_cells.proofs.values_allowed.Goals as goal
 
--- src/lib.rt:83:5
 pub loop-i-init : goal.loop-i-init
-loop-i-init c = (omega arith, refl)
+loop-i-init c = up_starts _
 
--- src/lib.rt:86:13
 pub returns-then-not-value_allowed : goal.returns-then-not-value_allowed
-returns-then-not-value_allowed c = down_stops (λ (k : ℕ). value_allowed (value_at c.args.elems.now k)) _ c.loop-i.i c.loop-i.invariant.1 (omega arith) (sym c.value_allowed.ensures ∙ c.if-not-value_allowed.true)
+returns-then-not-value_allowed c = up_stops (λ (k : ℕ). value_allowed (value_at c.args.elems.now k)) _ c.loop-i.i (omega arith) (sym c.value_allowed.ensures ∙ c.if-not-value_allowed.true)
 
--- src/lib.rt:83:5
 pub loop-i-preserved : goal.loop-i-preserved
-loop-i-preserved c = (omega arith, down_on (λ (k : ℕ). value_allowed (value_at c.args.elems.now k)) _ c.loop-i.i c.loop-i.invariant.1 (omega arith) (sym c.value_allowed.ensures ∙ c.if-not-value_allowed.false))
+loop-i-preserved c = up_on (λ (k : ℕ). value_allowed (value_at c.args.elems.now k)) c.loop-i.i c.loop-i.invariant (sym c.value_allowed.ensures ∙ c.if-not-value_allowed.false)
 
--- src/lib.rt:78:1
 pub returns : goal.returns
-returns c = down_ends (λ (k : ℕ). value_allowed (value_at c.args.elems.now k)) _ c.loop-i.i c.loop-i.invariant.1 (omega arith)
+returns c = up_ends (λ (k : ℕ). value_allowed (value_at c.args.elems.now k)) _ c.loop-i.i (omega arith) (omega arith) c.loop-i.invariant

@@ -4,14 +4,11 @@ use mathlib.Core.Path.{sym, ◌∙◌}
 use native.Mathlib.Omega.{arith}
 use Rattle.heap_sound_free.proofs.free_list.Goals as goal
 
--- src/lib.rt:88:8
 pub mark_column-requires : goal.mark_column-requires
 mark_column-requires c = record { column_bound = omega arith; n_in_bounds = omega arith; capacity_in_bounds = omega arith; by_index = c.requires.by_index }
 
--- src/lib.rt:89:9
 pub returns-then-mark_column : goal.returns-then-mark_column
 returns-then-mark_column c = c.free_slots.ensures ∙ by_marks c.args.words.now c.args.map.now c.requires.words_value.0 _ (c.mark_column.ensures.marked c.if-mark_column.true) (sym c.mark_column.ensures.once ∙ c.if-mark_column.true)
 
--- src/lib.rt:79:1
-pub returns : goal.returns
-returns c = not_once c.args.words.now c.args.map.now c.requires.words_value.0 (sym c.mark_column.ensures.once ∙ c.if-mark_column.false)
+pub returns-else-mark_column : goal.returns-else-mark_column
+returns-else-mark_column c = c.if-mark_column.false ∙ not_once c.args.words.now c.args.map.now c.requires.words_value.0 (sym c.mark_column.ensures.once ∙ c.if-mark_column.false)

@@ -1,7 +1,6 @@
 -- `heap_sweep::sweep_slots`: what was to sweep is what is left to sweep. Assumes nothing.
 use native.Mathlib.Omega.{arith}
 use mathlib.Core.Path.{refl}
-use Prim.Native.Nat.{◌-◌}
 use Rattle.heap_sweep.specs.Sweeps.{swept}
 use Rattle.heap_sweep.proofs.SlotLaws.{sweeping, sweeps, sweeps_on, sweeps_end}
 use Rattle.heap_sweep.proofs.sweep_slots.Goals as goal
@@ -14,12 +13,6 @@ sweep_slot-requires c = sweeps (swept c.args.words.now c.args.map.now) _ (swept 
 
 pub loop-slot-preserved : goal.loop-slot-preserved
 loop-slot-preserved c = sweeps_on (swept c.args.words.now c.args.map.now) _ (swept c.loop-slot.words c.loop-slot.map) c.loop-slot.slot c.loop-slot.invariant c.loop-slot-test.true (swept c.sweep_slot.new.words c.sweep_slot.new.map) c.sweep_slot.ensures
-
-pub shape_of-words : goal.shape_of-words
-shape_of-words c = c.loop-slot.invariant.words_size
-
-pub shape_of-map : goal.shape_of-map
-shape_of-map c = c.loop-slot.invariant.map-size
 
 pub returns : goal.returns
 returns c = sweeps_end (swept c.args.words.now c.args.map.now) _ (swept c.loop-slot.words c.loop-slot.map) c.loop-slot.slot c.loop-slot.invariant (omega arith) refl

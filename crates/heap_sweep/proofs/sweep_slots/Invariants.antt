@@ -1,11 +1,7 @@
 -- `heap_sweep::sweep_slots`: what was to sweep is what is left to sweep. Assumes nothing.
-use Prim.Native.Nat.{◌-◌}
 use Rattle.heap_sweep.specs.Sweeps.{swept}
 use Rattle.heap_sweep.proofs.SlotLaws.{Sweeping}
 use Rattle.heap_sweep.proofs.sweep_slots.Given as goal
 
 abbrev pub invariant-loop-slot : goal.invariant-loop-slot
 invariant-loop-slot l = Sweeping (swept l.initial.words l.initial.map) l.capacity (swept l.words l.map) l.slot
-
-abbrev pub decreases-loop-slot : goal.decreases-loop-slot
-decreases-loop-slot l = l.capacity - l.slot

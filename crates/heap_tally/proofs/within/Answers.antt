@@ -1,30 +1,16 @@
 -- `heap_tally::within`: each case keeps its number or has none. Assumes nothing.
-use Rattle.heap_tally.proofs.StepLaws.{as_within}
+use Rattle.heap_tally.proofs.StepLaws.{as_within, all_within, as_name}
 use Rattle.heap_tally.proofs.within.Goals as goal
-
-pub returns-in-Faulty : goal.returns-in-Faulty
-returns-in-Faulty c = λ n s. as_within c.in-Faulty.is n s
-
-pub returns-in-Plain : goal.returns-in-Plain
-returns-in-Plain c = λ n s. as_within c.in-Plain.is n s
 
 pub returns-in-String : goal.returns-in-String
 returns-in-String c = λ n s. as_within c.in-String.is n s
 
-pub returns-in-Symbol : goal.returns-in-Symbol
-returns-in-Symbol c = λ n s. as_within c.in-Symbol.is n s
-
-pub returns-in-Ident : goal.returns-in-Ident
-returns-in-Ident c = λ n s. as_within c.in-Ident.is n s
-
-pub returns-in-Ref : goal.returns-in-Ref
-returns-in-Ref c = λ n s. as_within c.in-Ref.is n s
-
-pub returns-in-Pair : goal.returns-in-Pair
-returns-in-Pair c = λ n s. as_within c.in-Pair.is n s
-
 pub returns-in-Vector : goal.returns-in-Vector
 returns-in-Vector c = λ n s. as_within c.in-Vector.is n s
 
-pub returns-in-Def : goal.returns-in-Def
-returns-in-Def c = λ n s. as_within c.in-Def.is n s
+pub returns-in_default : goal.returns-in_default
+returns-in_default c =
+    λ n s. all_within c.args.node n c.in_default.not-String c.in_default.not-Symbol c.in_default.not-Ident c.in_default.not-Vector s
+
+pub returns-in-Symbol : goal.returns-in-Symbol
+returns-in-Symbol c = λ n s. as_name c.args.node n c.in-Symbol.n c.in-Symbol.is s

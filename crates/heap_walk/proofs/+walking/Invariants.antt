@@ -1,6 +1,6 @@
 -- The cycle of `heap_walk`: a slot, what its cell holds, a vector's elements and one of them. The bound of the path falls from a
 -- slot to what its cell holds.
-use Rattle.std.proofs.Common.{◌-◌, ◌≡◌, ◌+◌, ◌*◌, length}
+use Rattle.std.proofs.Common.{◌≡◌, ◌+◌, ◌*◌, length}
 use Rattle.heap_walk.proofs.Cycle.{Going}
 use Rattle.heap_walk.specs.Tasks.{Job, ElementsTask}
 use Rattle.heap_walk.proofs.+walking.Given as goal
@@ -21,8 +21,5 @@ abbrev pub invariant-walk_elements-loop-i : goal.invariant-walk_elements-loop-i
 invariant-walk_elements-loop-i l =
     record {
       same : length l.marks ≡ length l.initial.marks;
-      going : (j : Job) → ElementsTask j l.place l.n l.left l.count l.words l.elems l.initial.marks → Going j l.place l.n l.left l.count l.words l.elems l.initial.marks l.known l.i l.marks;
+      going : (j : Job) → ElementsTask j l.place l.n l.left l.count l.heap.words.now l.heap.elems.now l.initial.marks → Going j l.place l.n l.left l.count l.heap.words.now l.heap.elems.now l.initial.marks l.known l.i l.marks;
     }
-
-abbrev pub decreases-walk_elements-loop-i : goal.decreases-walk_elements-loop-i
-decreases-walk_elements-loop-i l = l.n - l.i

@@ -4,6 +4,3 @@ use Rattle.leaf_free.proofs.fresh.Given as goal
 
 abbrev pub invariant-loop-s : goal.invariant-loop-s
 invariant-loop-s l = Falling l.initial.words l.chunk l.words l.s
-
-abbrev pub decreases-loop-s : goal.decreases-loop-s
-decreases-loop-s l = l.s

@@ -1,6 +1,5 @@
 -- `leaf_free::grow`: what is joined and what is left to join make the whole. Assumes nothing.
 use mathlib.Core.Path.{◌∙◌}
-use lib.ListN.{length-set}
 use Rattle.leaf_free.proofs.Steps.{joining, joining_on, joining_ends, grows}
 use borrow.Author.Rules.{rules}
 use Rattle.leaf_free.proofs.grow.Goals as goal
@@ -10,9 +9,6 @@ loop-s-init c = joining c.args.words.now c.grown-goal.result c.requires c.grown-
 
 pub loop-s-preserved : goal.loop-s-preserved
 loop-s-preserved c = joining_on _ _ _ c.loop-s.words c.loop-s.s _ c.loop-s.invariant c.loop-s-test.true c.push.ensures
-
-pub shape_of-words : goal.shape_of-words
-shape_of-words c = c.loop-s.invariant.same_size ∙ simp length-set
 
 pub returns : goal.returns
 returns c = joining_ends _ _ _ _ _ c.loop-s.invariant (search rules) ∙ grows c.args.words.now c.grown-goal.result c.grown-goal.ensures

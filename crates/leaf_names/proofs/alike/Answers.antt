@@ -1,18 +1,10 @@
--- `leaf_names::alike`: what the comparison says, told by its three cases. Assumes nothing.
-use mathlib.Core.Path.{sym, ap, ◌∙◌}
-use Rattle.leaf_names.specs.declared.Order.{Order}
-use Rattle.leaf_names.specs.Ordering.{shown, is_level}
+-- `leaf_names::alike`: what the comparison says. Assumes nothing.
+use mathlib.Core.Path.{ap, ◌∙◌}
 use Rattle.leaf_names.specs.Keys.{alike}
+use Rattle.leaf_names.specs.Ordering.{is_level}
+use Rattle.leaf_names.proofs.Shown.{eq_shown}
 use Rattle.leaf_names.proofs.alike.Goals as goal
 
-pub returns-in-Before : goal.returns-in-Before
+pub returns : goal.returns
 unfolding alike
-returns-in-Before c = ap (λ (o : Order). is_level (shown o)) (sym c.in-Before.is) ∙ ap is_level c.compare_keys-order.ensures
-
-pub returns-in-Same : goal.returns-in-Same
-unfolding alike
-returns-in-Same c = ap (λ (o : Order). is_level (shown o)) (sym c.in-Same.is) ∙ ap is_level c.compare_keys-order.ensures
-
-pub returns-in-After : goal.returns-in-After
-unfolding alike
-returns-in-After c = ap (λ (o : Order). is_level (shown o)) (sym c.in-After.is) ∙ ap is_level c.compare_keys-order.ensures
+returns c = c.is_eq.ensures ∙ eq_shown _ ∙ ap is_level c.compare_keys.ensures

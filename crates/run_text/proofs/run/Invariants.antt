@@ -2,5 +2,5 @@
 use Rattle.std.proofs.Common.{◌-◌, length}
 use Rattle.run_text.proofs.run.Given as goal
 
-abbrev pub decreases-loop-at : goal.decreases-loop-at
-decreases-loop-at g l = length l.lines - l.at
+abbrev pub decreases-loop-end : goal.decreases-loop-end
+decreases-loop-end g l = length l.lines - l.at

@@ -6,10 +6,7 @@ use mathlib.Core.Path.{sym}
 use Rattle.run_text.proofs.say_hex.Goals as goal
 
 pub slice_bounds-say_bytes-end : goal.slice_bounds-say_bytes-end
-slice_bounds-say_bytes-end g c = omega (arith, hexed_size c.args.room.now 0 c.args.line.now c.unhex-h.new.out c.unhex-h.result c.in-Good.n c.unhex-h.ensures c.in-Good.is, c.unhex-h.auto.out)
+slice_bounds-say_bytes-end g c = omega (arith, hexed_size c.args.room.now 0 c.args.line.now c.unhex.new.out c.unhex.result c.in-Some.n c.unhex.ensures c.in-Some.is, c.unhex.auto.out)
 
-pub slice_bounds-say_bytes-end-in-Good : goal.slice_bounds-say_bytes-end-in-Good
-slice_bounds-say_bytes-end-in-Good g c = sym (length-take-le c.in-Good.n c.unhex-h.new.out (omega (arith, hexed_size c.args.room.now 0 c.args.line.now c.unhex-h.new.out c.unhex-h.result c.in-Good.n c.unhex-h.ensures c.in-Good.is, c.unhex-h.auto.out)))
-
-pub say_bytes-requires : goal.say_bytes-requires
-say_bytes-requires g c = omega (arith, c.unhex-h.auto.out, length-take-le c.in-Good.n c.unhex-h.new.out (omega (arith, hexed_size c.args.room.now 0 c.args.line.now c.unhex-h.new.out c.unhex-h.result c.in-Good.n c.unhex-h.ensures c.in-Good.is, c.unhex-h.auto.out)), hexed_size c.args.room.now 0 c.args.line.now c.unhex-h.new.out c.unhex-h.result c.in-Good.n c.unhex-h.ensures c.in-Good.is)
+pub slice_bounds-say_bytes-end-2 : goal.slice_bounds-say_bytes-end-2
+slice_bounds-say_bytes-end-2 g c = sym (length-take-le c.in-Some.n c.unhex.new.out (omega (arith, hexed_size c.args.room.now 0 c.args.line.now c.unhex.new.out c.unhex.result c.in-Some.n c.unhex.ensures c.in-Some.is, c.unhex.auto.out)))

@@ -5,10 +5,10 @@ use Rattle.text_numbers.proofs.PrintLaws.{decimal_short}
 use Rattle.run_text.proofs.say_unsigned.Goals as goal
 
 pub print_decimal-end-requires : goal.print_decimal-end-requires
-print_decimal-end-requires g c = omega (arith, decimal_short c.in-Good.m (omega arith))
+print_decimal-end-requires g c = omega (arith, decimal_short c.in-Some.n (omega arith))
 
-pub slice_bounds-write_all-end-in-Good : goal.slice_bounds-write_all-end-in-Good
-slice_bounds-write_all-end-in-Good g c = omega (arith, c.print_decimal-end.ensures.end, decimal_short c.in-Good.m (omega arith), c.print_decimal-end.auto.out)
+pub slice_bounds-write_all-end : goal.slice_bounds-write_all-end
+slice_bounds-write_all-end g c = omega (arith, c.print_decimal-end.ensures.end, decimal_short c.in-Some.n (omega arith), c.print_decimal-end.auto.out)
 
-pub slice_bounds-write_all-end-in-Good-2 : goal.slice_bounds-write_all-end-in-Good-2
-slice_bounds-write_all-end-in-Good-2 g c = sym (length-take-le c.print_decimal-end.result c.print_decimal-end.new.out (omega (arith, c.print_decimal-end.ensures.end, decimal_short c.in-Good.m (omega arith), c.print_decimal-end.auto.out)))
+pub slice_bounds-write_all-end-2 : goal.slice_bounds-write_all-end-2
+slice_bounds-write_all-end-2 g c = sym (length-take-le c.print_decimal-end.result c.print_decimal-end.new.out (omega (arith, c.print_decimal-end.ensures.end, decimal_short c.in-Some.n (omega arith), c.print_decimal-end.auto.out)))

@@ -1,11 +1,6 @@
 -- `sheet_keys::find`: what was to look at is what is left to look at. Assumes nothing.
 use Rattle.sheet_keys.proofs.KeyLaws.{hit, miss, nowhere}
-use Prim.Native.Nat.{◌-◌}
-use mathlib.Core.Path.{refl}
 use Rattle.sheet_keys.proofs.find.Goals as goal
-
-pub loop-i-init : goal.loop-i-init
-loop-i-init c = refl
 
 pub returns-then-text-i : goal.returns-then-text-i
 returns-then-text-i c = hit c.args.byte c.args.text.now c.args.from c.loop-i.i c.loop-i.invariant c.loop-i-test.true c.if-text-i.true

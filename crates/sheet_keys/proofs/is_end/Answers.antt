@@ -1,12 +1,11 @@
--- `sheet_keys::is_end`: no such key; or the key, and nothing behind it. Assumes nothing.
-use Rattle.sheet_keys.proofs.KeyLaws.{not_end, at_end}
-use Rattle.laws.specs.Basics.{basics, ascii}
+-- `sheet_keys::is_end`: the line is the same as the last. Assumes nothing.
+use Rattle.sheet_keys.proofs.KeyLaws.{pointwise_same}
+use Rattle.laws.specs.Basics.{basics, same}
+use mathlib.Core.List.{List}
+use mathlib.Core.Path.{ap, ◌∙◌}
+use Prim.Native.Nat.{ℕ}
 use Rattle.sheet_keys.proofs.is_end.Goals as goal
 
-pub returns-in-None : goal.returns-in-None
+pub returns : goal.returns
 unfolding basics
-returns-in-None c = not_end (ascii "end=") c.args.line.now c.after-f.result c.after-f.ensures c.in-None.is
-
-pub returns-in-At : goal.returns-in-At
-unfolding basics
-returns-in-At c = at_end (ascii "end=") c.args.line.now c.after-f.result c.after-f.ensures c.in-At.p c.in-At.is
+returns c = c.eq.ensures ∙ pointwise_same c.args.line.now c.as_slice.result.now ∙ ap (λ (l : List ℕ). same c.args.line.now l) c.as_slice.ensures

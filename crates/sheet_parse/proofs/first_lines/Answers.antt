@@ -3,14 +3,14 @@ use Rattle.laws.specs.Basics.{basics}
 use Rattle.sheet_parse.proofs.ReadLaws.{no_chunk, no_slots, both_lines}
 use Rattle.sheet_parse.proofs.first_lines.Goals as goal
 
-pub returns-in-Bad : goal.returns-in-Bad
+pub returns-in_err-chunk : goal.returns-in_err-chunk
 unfolding basics
-returns-in-Bad c = no_chunk c.args.text.now c.header_at-chunk.result c.header_at-chunk.ensures c.in-Bad.is
+returns-in_err-chunk c = rw c.from_residual.ensures (no_chunk c.args.text.now c.in_err-chunk.ensures)
 
-pub returns-in-Bad-slots : goal.returns-in-Bad-slots
+pub returns-in_err-slots : goal.returns-in_err-slots
 unfolding basics
-returns-in-Bad-slots c = no_slots c.args.text.now c.header_at-chunk.result c.header_at-chunk.ensures c.in-Good.c c.in-Good.next c.in-Good.is c.header_at-slots.result c.header_at-slots.ensures c.in-Bad-slots.is
+returns-in_err-slots c = rw c.from_residual-in_err-slots.ensures (no_slots c.args.text.now c.in_ok-chunk.chunk c.in_ok-chunk.ensures c.in_err-slots.ensures)
 
-pub returns-in-Good-slots : goal.returns-in-Good-slots
+pub returns : goal.returns
 unfolding basics
-returns-in-Good-slots c = both_lines c.args.text.now c.header_at-chunk.result c.header_at-chunk.ensures c.in-Good.c c.in-Good.next c.in-Good.is c.header_at-slots.result c.header_at-slots.ensures c.in-Good-slots.s c.in-Good-slots.from c.in-Good-slots.is
+returns c = both_lines c.args.text.now c.in_ok-chunk.chunk c.in_ok-chunk.ensures c.in_ok-slots.slots c.in_ok-slots.ensures

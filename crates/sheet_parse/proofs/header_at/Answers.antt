@@ -1,25 +1,26 @@
 -- `sheet_parse::header_at`: no line; no such number; or the number and the place behind the line. Assumes nothing.
 use native.Mathlib.Omega.{arith}
-use Rattle.sheet_parse.proofs.ReadLaws.{first_none, first_some, line_between, no_end, no_number, a_number}
+use mathlib.Core.Path.{sym}
+use Rattle.sheet_parse.proofs.ReadLaws.{between, no_end, no_number, a_number}
 use Rattle.sheet_parse.proofs.header_at.Goals as goal
 
+pub returns-in_err-end : goal.returns-in_err-end
+returns-in_err-end c = rw c.from_residual.ensures (no_end c.args.key.now c.args.text.now c.args.from c.in_err-end.ensures)
+
 pub slice_bounds-header_line-count : goal.slice_bounds-header_line-count
-slice_bounds-header_line-count c = omega (arith, (line_between c.args.text.now c.args.from c.line_end-found.result c.in-At.end c.line_end-found.ensures c.in-At.is).from)
+slice_bounds-header_line-count c = omega (arith, (between c.args.text.now c.args.from c.in_ok-end.end (sym c.in_ok-end.ensures)).from)
 
 pub slice_bounds-header_line-start : goal.slice_bounds-header_line-start
-slice_bounds-header_line-start c = omega (arith, (line_between c.args.text.now c.args.from c.line_end-found.result c.in-At.end c.line_end-found.ensures c.in-At.is).from)
+slice_bounds-header_line-start c = omega (arith, (between c.args.text.now c.args.from c.in_ok-end.end (sym c.in_ok-end.ensures)).from)
 
 pub slice_bounds-header_line-end : goal.slice_bounds-header_line-end
-slice_bounds-header_line-end c = omega (arith, (line_between c.args.text.now c.args.from c.line_end-found.result c.in-At.end c.line_end-found.ensures c.in-At.is).inside)
+slice_bounds-header_line-end c = omega (arith, (between c.args.text.now c.args.from c.in_ok-end.end (sym c.in_ok-end.ensures)).inside)
+
+pub returns-in_err-number : goal.returns-in_err-number
+returns-in_err-number c = rw c.from_residual-in_err-number.ensures (no_number c.args.key.now c.args.text.now c.args.from c.in_ok-end.end c.in_ok-end.ensures c.in_err-number.ensures)
 
 pub overflow_add-result : goal.overflow_add-result
-overflow_add-result c = omega (arith, (line_between c.args.text.now c.args.from c.line_end-found.result c.in-At.end c.line_end-found.ensures c.in-At.is).inside)
+overflow_add-result c = omega (arith, (between c.args.text.now c.args.from c.in_ok-end.end (sym c.in_ok-end.ensures)).inside)
 
-pub returns-in-None : goal.returns-in-None
-returns-in-None c = no_end c.args.key.now c.args.text.now c.args.from (first_none c.args.text.now c.args.from c.line_end-found.result c.line_end-found.ensures c.in-None.is)
-
-pub returns-in-Bad : goal.returns-in-Bad
-returns-in-Bad c = no_number c.args.key.now c.args.text.now c.args.from c.in-At.end (first_some c.args.text.now c.args.from c.line_end-found.result c.line_end-found.ensures c.in-At.end c.in-At.is) c.header_line-n.result c.header_line-n.ensures c.in-Bad.is
-
-pub returns-in-Good : goal.returns-in-Good
-returns-in-Good c = a_number c.args.key.now c.args.text.now c.args.from c.in-At.end (first_some c.args.text.now c.args.from c.line_end-found.result c.line_end-found.ensures c.in-At.end c.in-At.is) c.header_line-n.result c.header_line-n.ensures c.in-Good.m c.in-Good.is
+pub returns : goal.returns
+returns c = a_number c.args.key.now c.args.text.now c.args.from c.in_ok-end.end c.in_ok-end.ensures c.in_ok-number.number c.in_ok-number.ensures

@@ -9,8 +9,8 @@ returns-then-ended c = the_end c.args.out.now c.args.used c.args.line.now c.args
 pub returns-else-ended : goal.returns-else-ended
 returns-else-ended c = end_early c.args.out.now c.args.used c.args.line.now c.args.next c.args.ended (sym c.if-is_end.true ∙ c.is_end.ensures) c.if-ended.false
 
-pub returns-in-Bad : goal.returns-in-Bad
-returns-in-Bad c = bad_line c.args.out.now c.args.used c.args.line.now c.args.next c.args.ended (sym c.if-is_end.false ∙ c.is_end.ensures) _ c.node_line-n.result c.node_line-n.ensures c.in-Bad.is
+pub returns-in_err-node : goal.returns-in_err-node
+returns-in_err-node c = rw c.from_residual.ensures (bad_line c.args.out.now c.args.used c.args.line.now c.args.next c.args.ended (sym c.if-is_end.false ∙ c.is_end.ensures) _ c.in_err-node.ensures)
 
-pub returns-in-Good : goal.returns-in-Good
-returns-in-Good c = good_line c.args.out.now c.args.used c.args.line.now c.args.next c.args.ended (sym c.if-is_end.false ∙ c.is_end.ensures) _ c.node_line-n.result c.node_line-n.ensures c.in-Good.size c.in-Good.follow c.in-Good.is
+pub returns : goal.returns
+returns c = good_line c.args.out.now c.args.used c.args.line.now c.args.next c.args.ended (sym c.if-is_end.false ∙ c.is_end.ensures) _ c.in_ok-node.node c.in_ok-node.ensures

@@ -3,7 +3,7 @@ use Rattle.rules.specs.Text.{decimal}
 use Rattle.laws.specs.Basics.{ascii}
 use mathlib.Core.List.{◌++◌}
 use Prim.Native.Nat.{ℕ}
-use mathlib.Core.Path.{ap}
+use mathlib.Core.Path.{ap, ◌∙◌}
 use Rattle.leaf_cells.proofs.KindLaws.{bool_word}
 use Rattle.leaf_cells.specs.declared.Value.TheVariants as value
 use Rattle.rules.specs.Listing.{listing_rules}
@@ -36,7 +36,7 @@ returns-in-Void c = value_as c.args.v value.Void 4 c.in-Void.is refl (omega arit
 
 pub returns-in-Bool : goal.returns-in-Bool
 unfolding listing_rules basics
-returns-in-Bool c = value_as c.args.v (value.Bool c.in-Bool.b) 25 c.in-Bool.is (ap (λ (n : ℕ). ascii "bool:" ++ decimal n) (bool_word c.in-Bool.b)) (omega arith) c.print_keyed-in-Bool.ensures
+returns-in-Bool c = value_as c.args.v (value.Bool c.in-Bool.b) 25 c.in-Bool.is (ap (λ (n : ℕ). ascii "bool:" ++ decimal n) (c.from.ensures ∙ bool_word c.in-Bool.b)) (omega arith) c.print_keyed-in-Bool.ensures
 
 pub returns-in-Char : goal.returns-in-Char
 unfolding listing_rules basics

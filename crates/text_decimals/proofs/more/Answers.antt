@@ -1,16 +1,13 @@
 -- `text_decimals::more`: a digit, or not; and the number stays within the most, or not. Assumes nothing.
-use Rattle.text_decimals.proofs.ReadLaws.{step_low, step_high, step_past, step_good}
+use Rattle.text_decimals.proofs.ReadLaws.{step_bad, step_past, step_good}
 use native.Mathlib.Omega.{arith}
 use Rattle.text_decimals.proofs.more.Goals as goal
 
-pub returns-then-byte-lt48 : goal.returns-then-byte-lt48
-returns-then-byte-lt48 c = step_low c.args.most c.args.n c.args.byte c.if-byte-lt48.true
-
-pub returns-then-byte-gt57 : goal.returns-then-byte-gt57
-returns-then-byte-gt57 c = step_high c.args.most c.args.n c.args.byte c.if-byte-lt48.false c.if-byte-gt57.true
+pub returns-in_err-digit_value : goal.returns-in_err-digit_value
+returns-in_err-digit_value c = rw c.from_residual.ensures (step_bad c.args.most c.args.n c.args.byte c.in_err-digit_value.ensures.value)
 
 pub returns-then-most-d : goal.returns-then-most-d
-returns-then-most-d c = step_past c.args.most c.args.n c.args.byte c.if-byte-lt48.false c.if-byte-gt57.false (omega arith)
+returns-then-most-d c = step_past c.args.most c.args.n c.args.byte _ c.in_ok-digit_value.ensures.value (omega (arith, c.in_ok-digit_value.ensures.small))
 
 pub returns : goal.returns
-returns c = step_good c.args.most c.args.n c.args.byte _ c.if-byte-lt48.false c.if-byte-gt57.false (omega arith) (omega arith)
+returns c = step_good c.args.most c.args.n c.args.byte _ _ c.in_ok-digit_value.ensures.value (omega arith) (omega (arith, c.in_ok-digit_value.ensures.small))

@@ -4,4 +4,4 @@ use Rattle.text_decimals.proofs.unsigned32.Goals as goal
 
 pub returns : goal.returns
 unfolding text_rules
-returns c = c.natural.ensures
+returns c = rw c.from.ensures at c.natural.ensures

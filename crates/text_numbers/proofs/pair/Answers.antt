@@ -1,14 +1,14 @@
--- `text_numbers::pair`: the first is no digit, the second is none, or both are. Assumes nothing.
-use Prim.Native.Nat.{◌+◌, ◌*◌}
-use Rattle.text_numbers.proofs.HexLaws.{high_bad, low_bad, pair_is}
-use native.Mathlib.Omega.{arith}
+-- `text_numbers::pair`: no first digit, no second, or both. Assumes nothing.
+use mathlib.Core.Path.{ap, ◌∙◌}
+use Rattle.text_decimals.specs.Reads.{shown}
+use Rattle.text_numbers.proofs.HexLaws.{pair_first, pair_second, pair_is}
 use Rattle.text_numbers.proofs.pair.Goals as goal
 
-pub returns-then-high-eq16 : goal.returns-then-high-eq16
-returns-then-high-eq16 c = (high_bad c.args.a c.args.b c.hex_value-high.result c.if-high-eq16.true c.hex_value-high.ensures.0, omega arith)
+pub returns-in_err-hex_value : goal.returns-in_err-hex_value
+returns-in_err-hex_value c = ap shown c.from_residual.ensures ∙ pair_first c.args.a c.args.b c.in_err-hex_value.ensures.value
 
-pub returns-then-low-eq16 : goal.returns-then-low-eq16
-returns-then-low-eq16 c = (low_bad c.args.a c.args.b c.hex_value-high.result c.if-high-eq16.false c.hex_value-high.ensures.1 c.hex_value-high.ensures.0 c.hex_value-low.result c.if-low-eq16.true c.hex_value-low.ensures.0, omega arith)
+pub returns-in_err-hex_value-2 : goal.returns-in_err-hex_value-2
+returns-in_err-hex_value-2 c = ap shown c.from_residual-in_err-hex_value-2.ensures ∙ pair_second c.args.a c.args.b _ c.in_ok-hex_value.ensures.value c.in_err-hex_value-2.ensures.value
 
 pub returns : goal.returns
-returns c = (pair_is c.args.a c.args.b c.hex_value-high.result c.if-high-eq16.false c.hex_value-high.ensures.1 c.hex_value-high.ensures.0 c.hex_value-low.result (16 * c.wide.result + c.wide-2.result) c.if-low-eq16.false c.hex_value-low.ensures.1 c.hex_value-low.ensures.0 (omega arith), omega arith)
+returns c = pair_is c.args.a c.args.b _ c.in_ok-hex_value.ensures.value _ c.in_ok-hex_value-2.ensures.value

@@ -1,6 +1,0 @@
--- `c_doors::talvongre_free`: what the door answers, told. Assumes nothing.
-use Rattle.c_doors.proofs.ToldLaws.{told_same}
-use Rattle.c_doors.proofs.talvongre_free.Goals as goal
-
-pub returns : goal.returns
-returns c = told_same _ _ _ _ _ c.free-a.ensures c.tell_count.ensures
