@@ -23,7 +23,7 @@ fn build_value(heap: Lists<'_>, marks: &mut [u64], out: &mut [u8], v: Value) -> 
 {
     let p = Page { left: 4096, at: 0 };
     match v {
-        Value::Slot(s) => heap_build::build(heap, marks, out, s, p),
+        Value::Slot(s) => heap_build::build(heap.words, heap.bytes, heap.elems, marks, out, s, p),
         _ => leaf_write::scalar(out, leaf_cells::value_words(v), p),
     }
 }
@@ -67,7 +67,7 @@ fn read_blank(
     requires { (r : Rooms) × (h : Heap) × BlankTask r h (value_of v) heap.words.now heap.bytes.now heap.elems.now scratch.old }
     ensures { (r : Rooms) (h : Heap) → BlankTask r h (value_of v) heap.entry.words.now heap.entry.bytes.now heap.entry.elems.now scratch.old → Answered h (value_of v) out.old result out.new }
 {
-    let count = heap_walk::label(heap, scratch, v);
+    let count = heap_walk::label(heap.words, heap.elems, scratch, v);
     if count > 64 {
         return Err(Refusal::OverLimit);
     }

@@ -28,5 +28,5 @@ invariant-build_elements-loop-i l =
     record {
       marks_same : length l.marks ≡ length l.initial.marks;
       out_same : length l.out ≡ length l.initial.out;
-      going : (j : Job) → ElementsTask j l.place l.n l.initial.q l.heap.words.now l.heap.bytes.now l.heap.elems.now l.initial.marks l.initial.out → Going j l.place l.n l.initial.q l.heap.words.now l.heap.bytes.now l.heap.elems.now l.initial.marks l.initial.out l.i l.q l.marks l.out;
+      going : (j : Job) → ElementsTask j l.place l.n l.initial.q l.words l.bytes l.elems l.initial.marks l.initial.out → Going j l.place l.n l.initial.q l.words l.bytes l.elems l.initial.marks l.initial.out l.i l.q l.marks l.out;
     }

@@ -21,5 +21,5 @@ abbrev pub invariant-walk_elements-loop-i : goal.invariant-walk_elements-loop-i
 invariant-walk_elements-loop-i l =
     record {
       same : length l.marks ≡ length l.initial.marks;
-      going : (j : Job) → ElementsTask j l.place l.n l.left l.count l.heap.words.now l.heap.elems.now l.initial.marks → Going j l.place l.n l.left l.count l.heap.words.now l.heap.elems.now l.initial.marks l.known l.i l.marks;
+      going : (j : Job) → ElementsTask j l.place l.n l.left l.count l.words l.elems l.initial.marks → Going j l.place l.n l.left l.count l.words l.elems l.initial.marks l.known l.i l.marks;
     }

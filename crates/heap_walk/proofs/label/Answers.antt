@@ -6,11 +6,11 @@ use native.Mathlib.Omega.{arith}
 use mathlib.Core.Path.{sym, ap}
 use Rattle.heap_walk.proofs.label.Goals as goal
 
-pub bounds-heap-1 : goal.bounds-heap-1
-bounds-heap-1 c = some_words _ _ _ _ _ _ c.requires.2
+pub bounds-words-1 : goal.bounds-words-1
+bounds-words-1 c = some_words _ _ _ _ _ _ c.requires.2
 
-pub overflow_add-heap : goal.overflow_add-heap
-overflow_add-heap c = omega (arith, capacity_most _ _ _ _ _ _ c.requires.2)
+pub overflow_add-words : goal.overflow_add-words
+overflow_add-words c = omega (arith, capacity_most _ _ _ _ _ _ c.requires.2)
 
 pub walk-requires : goal.walk-requires
 walk-requires c = (_, first_task _ _ _ _ _ _ c.requires.2 _ (sym (ap value_of c.in-Slot.is)))
