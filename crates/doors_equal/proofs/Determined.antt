@@ -1,7 +1,7 @@
 -- Each promise determines what the door does: two outcomes that both meet it on the same lists and numbers at entry are the same
 -- answer and the same scratch, refusals too; `equal` has one answer. The heap's lists are lent only to read. Document 01, "Each
 -- public call's promise determines the answer and every lent byte afterwards". Assumes nothing.
-use mathlib.Core.Path.{◌≡◌, refl, sym, ap, ◌∙◌}
+use mathlib.Core.Path.{◌≡◌, sym, ap, ◌∙◌}
 use mathlib.Core.Bool.{Bool, true, false, not}
 use mathlib.Core.List.{List, [], ◌∷◌}
 use Prim.Native.Nat.{ℕ}

@@ -43,7 +43,7 @@ pub fn eqv(heap: Lists<'_>, kind: u64, a: u64, kind2: u64, a2: u64) -> Result<bo
     eqv_values(sound, v, w)
 }
 
-// `equal` of two values that were given, in scratch that is clear: 14.
+// `equal` of two values that were given: 14.
 fn equal_values(heap: Sound<'_>, scratch: &mut [u64], v: Value, w: Value) -> Result<bool, Refusal>
     requires { ltb (length scratch.old) (scratch_words (get_or heap.lists.words.now 1 0)) ≡ false }
     ensures { EqualValues (heap_of (lent_of heap.entry.lists)) scratch.old (value_of v) (value_of w) (equal_left (answer_of result) scratch.new) }
@@ -76,8 +76,19 @@ pub fn equal(
     if heap_given::scratch_short(sound, scratch.len()) {
         return Err(Refusal::ShortScratch);
     }
-    leaf_clear::clear_words(scratch);
-    let v = heap_given::given_value(kind, a)?;
-    let w = heap_given::given_value(kind2, a2)?;
+    let v = match heap_given::given_value(kind, a) {
+        Ok(v) => v,
+        Err(fault) => {
+            leaf_clear::clear_words(scratch);
+            return Err(Refusal::from(fault));
+        }
+    };
+    let w = match heap_given::given_value(kind2, a2) {
+        Ok(w) => w,
+        Err(fault) => {
+            leaf_clear::clear_words(scratch);
+            return Err(Refusal::from(fault));
+        }
+    };
     equal_values(sound, scratch, v, w)
 }

@@ -26,9 +26,15 @@ pub fn read(
     if heap_given::scratch_short(sound, scratch.len()) {
         return Err(Refusal::ShortScratch);
     }
-    leaf_clear::clear_words(scratch);
-    let v = heap_given::given_value(kind, a)?;
+    let v = match heap_given::given_value(kind, a) {
+        Ok(v) => v,
+        Err(fault) => {
+            leaf_clear::clear_words(scratch);
+            return Err(Refusal::from(fault));
+        }
+    };
     if !heap_given::value_in_use(heap.map, heap.words[1] as usize, v) {
+        leaf_clear::clear_words(scratch);
         return Err(Refusal::NoSuchSlot);
     }
     let length = heap_read::read(heap, scratch, out, v)?;

@@ -150,3 +150,6 @@ take_more l i h = ap (λ (n : ℕ). take n l) (add-one i) ∙ take-suc l i 0 h
 
 pub drop_more : (l : List ℕ) (i : ℕ) → i < length l → drop i l ≡ (get_or l i 0 ∷ []) ++ drop (i + 1) l
 drop_more l i h = drop-cons l i 0 h ∙ ap (λ (n : ℕ). get_or l i 0 ∷ drop n l) (sym (add-one i))
+
+pub take_whole : (l : List ℕ) (i : ℕ) → i ≤ length l → length l ≤ i → take i l ≡ l
+take_whole l i a b = let e : i ≡ length l = omega arith in ap (λ (n : ℕ). take n l) e ∙ lib.Seq.take-length l

@@ -5,7 +5,6 @@ use mathlib.Core.List.{List, [], ◌∷◌, ◌++◌}
 use mathlib.Core.Option.{Option, none, some}
 use Prim.Native.Nat.{ℕ, suc, ◌+◌, ◌-◌, ◌≤◌, ◌<◌}
 use native.Mathlib.Omega.{arith}
-use native.Mathlib.Numerals.{add-one}
 use borrow.Author.Tests.{eq-eqb, ne_eqb}
 use lib.Dec.{eqb}
 use lib.ListN.{length, get_or, take, drop}
@@ -15,9 +14,11 @@ use Rattle.std.specs.Prelude as code
 use Rattle.std.specs.Prelude.{Some, None, is_some}
 use Rattle.leaf_symbols.specs.Table.{found_in}
 use Rattle.leaf_find.specs.Finds.{shown_found}
-use Rattle.std.proofs.lemmas.List.{drop_all}
 use Rattle.std.proofs.lemmas.List.Elements.{All-same, All-push}
-use lib.Seq.{drop-cons}
+use lib.Seq.{take-suc}
+use Rattle.std.proofs.lemmas.List.{map-append}
+use Rattle.laws.proofs.Tests.{either_false}
+use Rattle.heap_needs.proofs.Standing.{any_append}
 use lib.ListN.{length-append}
 use Rattle.heap_needs.specs.declared.Name as code_name
 use Rattle.heap_needs.specs.declared.Tally.{Tally}
@@ -29,22 +30,31 @@ pub part_sized : (datum : List ℕ) (size end : ℕ) → size ≤ end → take (
 part_sized datum size end h =
     let e : end - (end - size) ≡ size = omega arith in ap (λ (n : ℕ). take n (drop (end - size) datum)) e
 
--- ---- looking for a name
+-- ---- looking for a name, from the latest on
 
-module _ (names : List code_name.Name) (datum text : List ℕ) (scope i : ℕ) (n d : code_name.Name) (small : i < length names) (item : n ≡ get_or names i d) where
-  abbrev rest : ℕ → Bool
-  rest k = met (names_in (drop k names) datum) text scope
+either_true : (b : Bool) → either b true ≡ true
+either_true true = refl
+either_true false = refl
 
-  name_met : rest i ≡ either (both (eqb n.scope scope) (same (take n.size (drop n.place datum)) text)) (rest (suc i))
+module _ (names : List code_name.Name) (datum text : List ℕ) (scope i : ℕ) (n d : code_name.Name) (left : 0 < i) (small : i ≤ length names) (item : n ≡ get_or names (i - 1) d) where
+  abbrev before : ℕ → Bool
+  before k = met (names_in (take k names) datum) text scope
+
+  name_met : before i ≡ either (before (i - 1)) (both (eqb n.scope scope) (same (take n.size (drop n.place datum)) text))
   unfolding needs_rules pass_rules basics
   name_met =
-      ap (λ (l : List code_name.Name). met (names_in l datum) text scope)
-      (drop-cons names i d small ∙ ap (λ (x : code_name.Name). x ∷ drop (suc i) names) (sym item))
+      let next : i ≡ suc (i - 1) = omega arith in
+      ap before next
+      ∙ ap (λ (l : List code_name.Name). met (names_in l datum) text scope)
+      (take-suc names (i - 1) d (omega arith) ∙ ap (λ (x : code_name.Name). take (i - 1) names ++ (x ∷ [])) (sym item))
+      ∙ ap (λ (l : List Name). met l text scope) (map-append (name_in datum) (take (i - 1) names) (n ∷ []))
+      ∙ any_append (λ (x : Name). both (eqb x.scope scope) (same x.text text)) (names_in (take (i - 1) names) datum) (name_in datum n ∷ [])
+      ∙ ap (either (before (i - 1))) (either_false (both (eqb n.scope scope) (same (take n.size (drop n.place datum)) text)))
 
-  not_here : both (eqb n.scope scope) (same (take n.size (drop n.place datum)) text) ≡ false → rest i ≡ rest (i + 1)
-  not_here e = name_met ∙ ap (λ (b : Bool). either b (rest (suc i))) e ∙ ap rest (sym (add-one i))
+  not_here : both (eqb n.scope scope) (same (take n.size (drop n.place datum)) text) ≡ false → before i ≡ before (i - 1)
+  not_here e = name_met ∙ ap (either (before (i - 1))) e ∙ either_false (before (i - 1))
 
-  pub other_scope : (n.scope ≡ scope → ⊥) → rest i ≡ rest (i + 1)
+  pub other_scope : (n.scope ≡ scope → ⊥) → before i ≡ before (i - 1)
   other_scope q = not_here (ap (λ (b : Bool). both b (same (take n.size (drop n.place datum)) text)) (ne_eqb n.scope scope q))
 
   module _ (same_scope : n.scope ≡ scope) where
@@ -53,15 +63,16 @@ module _ (names : List code_name.Name) (datum text : List ℕ) (scope i : ℕ) (
         ap (λ (b : Bool). both b (same (take n.size (drop n.place datum)) text)) (eq-eqb n.scope scope same_scope)
         ∙ ap (λ (l : List ℕ). same l text) (sym (part_end datum n.place n.size)) ∙ e
 
-    pub other_text : same (take (n.place + n.size - n.place) (drop n.place datum)) text ≡ false → rest i ≡ rest (i + 1)
+    pub other_text : same (take (n.place + n.size - n.place) (drop n.place datum)) text ≡ false → before i ≡ before (i - 1)
     other_text e = not_here (scope_text false e)
 
-    pub here : same (take (n.place + n.size - n.place) (drop n.place datum)) text ≡ true → rest i ≡ true
-    here e = name_met ∙ ap (λ (b : Bool). either b (rest (suc i))) (scope_text true e)
+    pub here : same (take (n.place + n.size - n.place) (drop n.place datum)) text ≡ true → before i ≡ true
+    here e = name_met ∙ ap (either (before (i - 1))) (scope_text true e) ∙ either_true (before (i - 1))
 
-pub none_met : (names : List code_name.Name) (datum text : List ℕ) (scope i : ℕ) → length names ≤ i → met (names_in (drop i names) datum) text scope ≡ false
+pub none_met : (names : List code_name.Name) (datum text : List ℕ) (scope i : ℕ) → i ≤ 0 → met (names_in (take i names) datum) text scope ≡ false
 unfolding needs_rules pass_rules basics
-none_met names datum text scope i h = ap (λ (l : List code_name.Name). met (names_in l datum) text scope) (drop_all i names h)
+none_met names datum text scope i h =
+    let none_left : i ≡ 0 = omega arith in ap (λ (k : ℕ). met (names_in (take k names) datum) text scope) none_left
 
 -- ---- a new name
 

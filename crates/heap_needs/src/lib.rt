@@ -55,12 +55,13 @@ struct Tally {
     top: usize,
 }
 
-// The name was met under this scope.
+// The name was met under this scope. The latest are looked at first, since a datum names again what it has named lately.
 fn is_met(names: &[Name], datum: &[u8], name: &[u8], scope: u64) -> bool
     requires { Within names.now datum.now }
     ensures { result ≡ met (names_in names.now datum.now) name.now scope }
 {
-    for n in names {
+    for i in (0..names.len()).rev() {
+        let n = names[i];
         if n.scope == scope && leaf_names::same(&datum[n.place..n.place + n.size], name) {
             return true;
         }

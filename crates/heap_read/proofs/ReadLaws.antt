@@ -13,7 +13,7 @@ use lib.Dec.{eqb, ltb}
 use lib.ListN.{length, get_or, drop}
 use lib.Seq.{sets-eq}
 use Rattle.laws.specs.Basics.{choose, member, zeros, basics}
-use Rattle.laws.proofs.Lists.{get_or_zeros, length-zeros}
+use Rattle.laws.proofs.Lists.{get_or_zeros, length-zeros, no_elements}
 use Rattle.rules.specs.Numbers.{most_nodes, most_labels, scratch_words}
 use Rattle.rules.specs.Refusals.{accepted, refused, Refusal, over_limit, no_such_slot, short_output, unless, ◌⇒◌, refusals}
 use Rattle.rules.specs.Cells.{Value, slot, scalar}
@@ -91,6 +91,10 @@ module _ (h : Heap) (v : Value) where
           }
 
 -- ---- the two passes
+
+-- a part of no bytes, put back before the rest
+pub none_before : (part l : List ℕ) → length part ≡ 0 → part ++ l ≡ l
+none_before part l e = ap (λ (x : List ℕ). x ++ l) (no_elements part e)
 
 module _ (r : Rooms) (h : Heap) (v : Value) (words bytes elems marks out : List ℕ) (t : MarkedTask r h v words bytes elems marks) where
   pub count_task : ValueTask r h (labels_for h v) v words bytes elems marks

@@ -1,7 +1,7 @@
 -- The parts of the heap that lent lists hold, by the lists' words. Assumes nothing.
 use mathlib.Core.Path.{◌≡◌, ap, ◌∙◌}
 use mathlib.Core.List.{List, map, reverse, reverse-reverse}
-use Prim.Native.Nat.{ℕ, ◌+◌, ◌*◌, ◌≤◌, ◌<◌}
+use Prim.Native.Nat.{ℕ, ◌+◌, ◌*◌, ◌/◌, ◌≤◌, ◌<◌}
 use native.Mathlib.Nat.{zero-add, add-zero}
 use native.Mathlib.Omega.{arith}
 use lib.ListN.{length, get_or, length-map, length-reverse, get_or-eq_default}
@@ -44,6 +44,10 @@ module _ (l : Lent) where
   pub bytes_length : get_or l.words 4 0 ≤ length l.bytes → length (heap_of l).bytes ≡ get_or l.words 4 0
   unfolding layout_rules
   bytes_length h = length-take-le (header l 4) l.bytes h
+
+  pub map-length : get_or l.words 1 0 / 4 ≤ length l.map → length (heap_of l).map ≡ get_or l.words 1 0 / 4
+  unfolding layout_rules
+  map-length h = length-take-le (header l 1 / 4) l.map h
 
   abbrev element_value : ℕ → Value
   element_value i = value_from (element l i 0) (element l i 1)

@@ -1,12 +1,12 @@
--- Setup's numbers and the counts as facts on numbers. Assumes nothing.
-use mathlib.Core.Path.{◌≡◌}
+-- Setup's numbers and the counts as facts on numbers, each way. Assumes nothing.
+use mathlib.Core.Path.{◌≡◌, sym}
 use mathlib.Core.Bool.{true}
 use Prim.Native.Nat.{ℕ, ◌+◌, ◌-◌, ◌*◌, ◌/◌, ◌%◌, ◌≤◌}
-use borrow.Author.Tests.{leb-true, eqb-true}
+use borrow.Author.Tests.{leb-true, eqb-true, eq-eqb, le-leb}
 use lib.Dec.{eqb, leb}
 use lib.ListN.{length, get_or}
 use Rattle.laws.specs.Basics.{between}
-use Rattle.laws.proofs.Tests.{both_left, both_right}
+use Rattle.laws.proofs.Tests.{both_left, both_right, both_true}
 use Rattle.rules.specs.Numbers.{least_slots, most_slots, most_bytes, most_elements, numbers}
 use Rattle.rules.specs.Layout.{Lent, rooms_of, map_bytes, whole_rooms, header, layout_rules}
 use Rattle.rules.specs.Sound.{setup_numbers, counts_within, sound_rules}
@@ -50,6 +50,17 @@ numbers_told chunk l n =
       lent = leb-true _ _ (both_right (between 4 4096 chunk) _ ch1);
     }
 
+pub numbers_hold : (chunk : ℕ) (l : Lent) → Numbers chunk l → true ≡ setup_numbers chunk l
+unfolding sound_rules layout_rules numbers
+numbers_hold chunk l n =
+    sym
+    (both_true (both_true (eq-eqb _ _ n.words) (both_true (eq-eqb _ _ n.map) (eq-eqb _ _ n.elems)))
+    (both_true (both_true (le-leb _ _ n.least) (le-leb _ _ n.most))
+    (both_true (le-leb _ _ n.bytes)
+    (both_true (le-leb _ _ n.elements)
+    (both_true (eq-eqb _ _ n.fours)
+    (both_true (both_true (le-leb _ _ n.chunk_least) (le-leb _ _ n.chunk_most)) (le-leb _ _ n.lent)))))))
+
 pub record Counts (l : Lent) : Type 0 where
   pub capacity : get_or l.words 1 0 ≤ (length l.words - 8) / 8
   pub free : get_or l.words 2 0 ≤ get_or l.words 1 0
@@ -70,3 +81,11 @@ counts_told l c =
       bytes = leb-true _ _ (both_left (leb (header l 4) (rooms_of l).bytes) _ c3);
       elements = leb-true _ _ (both_right (leb (header l 4) (rooms_of l).bytes) _ c3);
     }
+
+pub counts_hold : (l : Lent) → Counts l → true ≡ counts_within l
+unfolding sound_rules layout_rules
+counts_hold l c =
+    sym
+    (both_true (le-leb _ _ c.capacity)
+    (both_true (le-leb _ _ c.free)
+    (both_true (le-leb _ _ c.table) (both_true (le-leb _ _ c.bytes) (le-leb _ _ c.elements)))))

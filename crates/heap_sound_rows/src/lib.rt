@@ -159,17 +159,26 @@ pub fn written(heap: Lists<'_>) -> bool
     requires elems_value_2 { counts_within (lent_of heap) ≡ true }
     ensures { result ≡ written_out (lent_of heap.entry) }
 {
+    if heap.words[6] != 1 {
+        return false;
+    }
+    if heap.words[7] != 0 {
+        return false;
+    }
     let states = heap.words[1] as usize / 4;
+    if !all_are(&heap.map[states..], 0) {
+        return false;
+    }
     let texts = heap.words[4] as usize;
+    if !all_are(&heap.bytes[texts..], 0) {
+        return false;
+    }
     let values = heap.words[5] as usize;
-    let map_clear = all_are(&heap.map[states..], 0);
-    let bytes_clear = all_are(&heap.bytes[texts..], 0);
-    let elems_clear = all_are(&heap.elems[3 * values..], 0);
-    heap.words[6] == 1
-        && heap.words[7] == 0
-        && map_clear
-        && bytes_clear
-        && elems_clear
-        && elements_kept(heap.elems, values)
-        && rows_kept(heap.words)
+    if !elements_kept(heap.elems, values) {
+        return false;
+    }
+    if !all_are(&heap.elems[3 * values..], 0) {
+        return false;
+    }
+    rows_kept(heap.words)
 }

@@ -8,7 +8,7 @@ use native.Mathlib.Nat.{zero-add}
 use native.Mathlib.Omega.{arith}
 use borrow.Author.Tests.{eqb-true, eq-eqb, ne_eqb, ltb-true}
 use lib.Dec.{eqb, ltb}
-use lib.ListN.{length, get_or, set}
+use lib.ListN.{length, get_or, set, get_or-eq_default}
 use lib.Seq.{get_or-set_same, get_or-set_other, ext_get_or}
 use Rattle.std.specs.Bool.{MatchBool}
 use Rattle.std.specs.List.{range_with_len, AllWithin, HoldsAt}
@@ -24,6 +24,9 @@ use Rattle.leaf_sort.specs.Arranged.{Arranged}
 use Rattle.leaf_sort.proofs.Arranging.{one_each, two_clash}
 use Rattle.heap_sound_rows.specs.Rows.{word}
 use Rattle.heap_sound_cells.specs.Looked.{used_slot}
+use Rattle.heap_sound_cells.proofs.FirstLaws.{read_bound, apart_bound}
+use Rattle.heap_sound_blocks.specs.Blocks.{shown, Apart}
+use Rattle.heap_sound_blocks.proofs.PaintLaws.{shown_is}
 use Rattle.heap_sound_free.specs.Marks.{new_at, column_of}
 use Rattle.heap_sound_free.proofs.TallyLaws.{tally_none, none_tally, new_is, new_of}
 use Rattle.heap_sound_table.specs.Entries.{entry_good, name_of, Keyed, KeysDiffer, Leading, NamesDiffer, Decided, TableGood}
@@ -95,6 +98,16 @@ module _ (ws : List ℕ) where
       entry_key : List ℕ → ℕ → code.Key
       entry_key ws n = record { place = word ws (word ws n 5) 1; size = word ws (word ws n 5) 2; scope = word ws n 6 }
 
+  -- the keys have room for each entry with a name or a scope, since past them `stored` has neither
+  pub keyed_room : (keys : List code.Key) (n : ℕ) → Keyed ws keys n → (e : ℕ) → e < n → 0 < word ws (word ws e 5) 2 + word ws e 6 → e < length keys
+  keyed_room keys n k e h some =
+      elim (dec_lt e (length keys)) [
+        | yes l ↦ l
+        | no l ↦
+            let past = sym (k.at e h) ∙ get_or-eq_default keys _ {n = e} (omega arith) in
+            absurd (omega (arith, ap (λ (x : code.Key). x.size + x.scope) past))
+      ]
+
 -- ---- the entries listed
 
 pub listed_more : (l : List ℕ) (i : ℕ) → i < length l → ((j : ℕ) → j < i → get_or l j 0 ≡ j) → (j : ℕ) → j < i + 1 → get_or (set l i i) j 0 ≡ j
@@ -162,6 +175,14 @@ module _ (ws m bytes : List ℕ) (capacity n : ℕ) where
 
     pub leading : 8 + 8 * capacity ≤ length ws → (m : ℕ) → m ≡ n → Leading ws m
     leading room m q = record { row = λ e h. omega (arith, low e (omega arith)) }
+
+    -- where the texts lie apart, each name lies within the bytes
+    pub leading_names : Apart (shown ws 7 8) (length bytes) capacity → (e : ℕ) → e < n → word ws (word ws e 5) 1 + word ws (word ws e 5) 2 ≤ length bytes
+    leading_names a e h =
+        let k = entry_kind ws m capacity e (below_all _ n good e h) in
+        let s = shown_is ws 7 8 (word ws e 5) (omega (arith, k)) (omega (arith, k)) in
+        read_bound (shown ws 7 8 (word ws e 5)) (word ws (word ws e 5) 1) (word ws (word ws e 5) 2) (length bytes) s
+        (apart_bound (shown ws 7 8) (length bytes) capacity (word ws e 5) a (low e h))
 
     pub slots_bad : every_below n (new_at (column_of ws 5) capacity) ≡ false → Decided (TableGood ws m bytes capacity n) false
     slots_bad e =

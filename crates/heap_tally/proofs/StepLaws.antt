@@ -8,7 +8,8 @@ use native.Mathlib.Omega.{arith}
 use native.Mathlib.Numerals.{add-one}
 use borrow.Author.Tests.{ltb-true, ltb-false, lt-ltb, le-ltb, lt-leb, le-leb}
 use lib.Dec.{leb, ltb}
-use lib.ListN.{length}
+use lib.ListN.{length, take, set}
+use lib.Seq.{length-take-le, take-suc-set}
 use Rattle.laws.specs.Basics.{choose, both, either, member, basics}
 use Rattle.laws.proofs.Members.{eqb_sym}
 use Rattle.rules.proofs.Nodes.{choose_true, choose_false}
@@ -37,6 +38,13 @@ either_or true true = refl
 either_or true false = refl
 either_or false true = refl
 either_or false false = refl
+
+-- the labels kept are as many as are known, and one more is behind them
+pub kept_size : (n : ℕ) (xs : List ℕ) → length xs ≡ 64 → n ≤ 64 → length (take n xs) ≡ n
+kept_size n xs e h = length-take-le n xs (omega arith)
+
+pub kept_grown : (n : ℕ) (xs : List ℕ) (x : ℕ) → length xs ≡ 64 → n < 64 → take (n + 1) (set xs n x) ≡ take n xs ++ (x ∷ [])
+kept_grown n xs x e h = ap (λ (k : ℕ). take k (set xs n x)) (add-one n) ∙ take-suc-set xs n x (omega arith)
 
 module _ (t : Tally) (refers : Bool) (label : ℕ) where
   pub mention_known : member label t.labels ≡ true → t ≡ mentioned refers label t

@@ -1,5 +1,5 @@
 -- One pass over a datum's nodes: what is tallied of them, node by node. Assumes nothing.
-use Rattle.std.specs.Prelude.{◌≡◌, Bool, true, false, not, List, [], ◌∷◌, ◌++◌, ℕ, suc, leb, ltb, length}
+use Rattle.std.specs.Prelude.{◌≡◌, Bool, true, false, not, List, [], ◌∷◌, ◌++◌, ℕ, suc, leb, ltb, length, take}
 use Rattle.std.proofs.Math.Option.{Option, none, some}
 use Rattle.laws.specs.Basics.{choose, both, either, member}
 use Rattle.rules.specs.Numbers.{most_nodes, most_labels}
@@ -8,7 +8,7 @@ use Rattle.rules.specs.Nodes.{Atom, Node, reads}
 use Rattle.rules.specs.Datum.{node_within}
 use Rattle.leaf_nodes.specs.declared.Node as leaf
 use Rattle.leaf_nodes.specs.Reads.{shown, text_length}
-use Rattle.heap_tally.specs.declared.Tally as code
+use Rattle.heap_tally.specs.declared.tallied.Tally as code
 
 -- the nodes so far, whether one broke a number of its own or a label was one too many, whether a reference came early, and
 -- the labels in the order of their first mention
@@ -63,7 +63,7 @@ capped left w = choose (ltb left w) (suc left) w
 
 -- the tally that the code carries
 abbrev pub tally_of : code.Tally → Tally
-tally_of t = tally t.nodes t.over t.early t.labels.items
+tally_of t = tally t.nodes t.over t.early (take t.known t.labels)
 
 -- a node by value shows a node of the rules, with a text of its length
 pub record Shown (x : leaf.Node) (n : Node) : Type 0 where

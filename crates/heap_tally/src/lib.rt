@@ -9,21 +9,13 @@ ghost use Rattle.rules.specs.Datum.{node_within};
 ghost use Rattle.rules.proofs.Flat.{follow};
 ghost use Rattle.heap_tally.specs.Pass.{tally_of, tally, mentioned, stepped, capped, Shown};
 
-use arrayvec::ArrayVec;
 use leaf_nodes::Node;
 
-const LABELS: usize = 64;
+mod tallied;
 
-// The nodes so far, whether one broke a number of its own or a label was one too many, whether a reference came early, and
-// the distinct labels.
-// Kept: two flags beside each other, since either can hold without the other, and 12 is told before 13.
-#[derive(Drop)]
-pub struct Tally {
-    pub nodes: u64,
-    pub over: bool,
-    pub early: bool,
-    pub labels: ArrayVec<u64, LABELS>,
-}
+pub use tallied::Tally;
+
+const LABELS: usize = 64;
 
 impl Tally {
     pub fn new() -> Tally
@@ -33,7 +25,8 @@ impl Tally {
             nodes: 0,
             over: false,
             early: false,
-            labels: ArrayVec::new(),
+            known: 0,
+            labels: [0; LABELS],
         }
     }
 
@@ -41,14 +34,15 @@ impl Tally {
     fn mention(&mut self, label: u64, refers: bool)
         ensures { tally_of self.new ≡ mentioned refers label (tally_of self.old) }
     {
-        if self.labels.contains(&label) {
+        if self.labels[..self.known].contains(&label) {
             return;
         }
-        if self.labels.is_full() {
+        if self.known == LABELS {
             self.over = true;
             return;
         }
-        self.labels.push(label);
+        self.labels[self.known] = label;
+        self.known += 1;
         self.early |= refers;
     }
 

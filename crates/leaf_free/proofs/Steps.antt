@@ -2,12 +2,13 @@
 use mathlib.Core.Path.{◌≡◌, refl, sym, ap, ◌∙◌, subst}
 use mathlib.Core.Bool.{Bool, true, false}
 use mathlib.Core.List.{List}
-use Prim.Native.Nat.{ℕ, suc, ◌+◌, ◌-◌, ◌*◌, ◌/◌, ◌≤◌, ◌<◌}
+use Prim.Native.Nat.{ℕ, zero, suc, ◌+◌, ◌-◌, ◌*◌, ◌/◌, ◌≤◌, ◌<◌}
 use native.Mathlib.Omega.{arith}
 use borrow.Author.Tests.{eq-eqb, ne_eqb}
 use lib.ListN.{length, get_or, set, length-set}
 use lib.Seq.{get_or-set_same, get_or-set_other}
-use Rattle.leaf_free.specs.FreeList.{capacity_of, count_of, goal_of, place, pushed, joined, grown_words, fallen, fresh_words, ready, CanStart, CanGrow, CanPop}
+use Rattle.rules.specs.Map.{set_state, Allocated}
+use Rattle.leaf_free.specs.FreeList.{capacity_of, count_of, goal_of, place, pushed, joined, grown_words, fallen, fresh_words, popped, ready, CanStart, CanGrow, CanPop, Popped}
 
 -- ---- push
 
@@ -32,6 +33,16 @@ joined_step ws s goal h =
 pub joined_done : (ws : List ℕ) (s goal : ℕ) → goal ≤ s → joined ws s (goal - s) ≡ ws
 unfolding joined
 joined_done ws s goal h = let e : goal - s ≡ 0 = omega arith in (λ i. joined ws s (e i))
+
+pub length-joined : (n : ℕ) (ws : List ℕ) (s : ℕ) → length (joined ws s n) ≡ length ws
+unfolding joined
+length-joined zero ws s = refl
+length-joined (suc n) ws s = length-joined n (pushed ws s) (suc s) ∙ length-pushed ws s
+
+pub length-grown : (ws : List ℕ) → length (grown_words ws) ≡ length ws
+unfolding grown_words
+length-grown ws =
+    length-joined (goal_of ws - capacity_of ws) (set ws 1 (goal_of ws)) (capacity_of ws) ∙ length-set ws 1 (goal_of ws)
 
 -- the loop of growth: what is left to join, and a row for each of its places
 pub record Joining (ws₀ : List ℕ) (size goal : ℕ) (ws : List ℕ) (s : ℕ) : Type 0 where
@@ -71,6 +82,15 @@ unfolding grown_words
 grows ws goal e = λ i. joined (set ws 1 (e i)) (capacity_of ws) (e i - capacity_of ws)
 
 -- ---- a fresh list
+
+pub length-fallen : (n : ℕ) (ws : List ℕ) → length (fallen ws n) ≡ length ws
+unfolding fallen
+length-fallen zero ws = refl
+length-fallen (suc n) ws = length-fallen n (pushed ws n) ∙ length-pushed ws n
+
+pub length-fresh : (ws : List ℕ) (chunk : ℕ) → length (fresh_words ws chunk) ≡ length ws
+unfolding fresh_words
+length-fresh ws chunk = length-fallen chunk (set (set (set ws 0 chunk) 1 chunk) 6 1) ∙ simp length-set
 
 -- its loop: what is left to push, and a row for each of its places
 pub record Falling (ws₀ : List ℕ) (chunk : ℕ) (ws : List ℕ) (s : ℕ) : Type 0 where
@@ -120,9 +140,22 @@ falls_ends ws ws' chunk s f e = (λ i. fallen ws' (sym e i)) ∙ f.rest
 
 -- ---- pop
 
+pub length-popped : (ws : List ℕ) → length (popped ws) ≡ length ws
+unfolding popped
+length-popped ws = simp length-set
+
 -- the place of the next slot as the code has it
 pub pops_state : (ws map : List ℕ) (at : ℕ) → CanPop ws map → at ≡ place (count_of ws - 1) → get_or ws at 0 / 4 < length map
 pops_state ws map at p e = subst (λ (k : ℕ). get_or ws k 0 / 4 < length map) (sym e) p.state
+
+pub pops : (ws map : List ℕ) (at : ℕ) (map' : List ℕ) → at ≡ place (count_of ws - 1) → map' ≡ set_state map (get_or ws at 0) Allocated → Popped ws map (get_or ws at 0) (set (set ws at 0) 2 (count_of ws - 1)) map'
+unfolding popped
+pops ws map at map' e m =
+    record {
+      slot_taken = ap (λ (k : ℕ). get_or ws k 0) e;
+      words_left = ap (λ (k : ℕ). set (set ws k 0) 2 (count_of ws - 1)) e;
+      map_left = m ∙ ap (λ (k : ℕ). set_state map (get_or ws k 0) Allocated) e;
+    }
 
 -- ---- alloc
 
@@ -133,3 +166,13 @@ ready_empty ws h = ap (λ (b : Bool). elim b [ true ↦ grown_words ws | false �
 pub ready_already : (ws : List ℕ) → (count_of ws ≡ 0 → ⊥) → ready ws ≡ ws
 unfolding ready
 ready_already ws h = ap (λ (b : Bool). elim b [ true ↦ grown_words ws | false ↦ ws ]) (ne_eqb (count_of ws) 0 h)
+
+pub length-ready : (ws : List ℕ) → length (ready ws) ≡ length ws
+length-ready ws =
+    elim (native.Mathlib.Decide.ℕ_discrete (count_of ws) 0) [
+      | yes e ↦ ap length (ready_empty ws e) ∙ length-grown ws
+      | no d ↦ ap length (ready_already ws d)
+    ]
+
+pub length-left : (ws map : List ℕ) (slot : ℕ) (ws' map' : List ℕ) → Popped ws map slot ws' map' → length ws' ≡ length ws
+length-left ws map slot ws' map' p = ap length p.words_left ∙ length-popped ws

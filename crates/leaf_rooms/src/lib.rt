@@ -21,11 +21,14 @@ pub fn text(bytes: &[u8], place: usize, size: usize) -> &[u8]
 }
 
 // A part written over what stood from a place on.
+// Kept: a loop, since std's copy_from_slice would have a host in C give memmove too, where this asks for memcpy alone.
 pub fn write<T: Copy>(room: &mut [T], at: usize, part: &[T])
     requires { at + length part.now ≤ length room.old }
     ensures { room.new ≡ stored room.old at part.now }
 {
-    room[at..at + part.len()].copy_from_slice(part);
+    for i in 0..part.len() {
+        room[at + i] = part[i];
+    }
 }
 
 // Raises a word of the header, which counts a room in use, and answers where the new block is: at the old count, "an empty

@@ -193,6 +193,9 @@ closing_ends ws₀ map ws kept i c h =
       many = omega (arith, ap length none_left, ap length all);
     }
 
+pub length_closed : (ws₀ ws map : List ℕ) (r : ℕ) → ClosedUp ws₀ ws map r → length ws ≡ length ws₀
+length_closed ws₀ ws map r c = ap length c.words ∙ length-stored-all ws₀ 0 (kept_entries ws₀ map)
+
 -- ---- clearing
 
 pub length-cleared : (ws : List ℕ) (from to : ℕ) → length (cleared ws from to) ≡ length ws

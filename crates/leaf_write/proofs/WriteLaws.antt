@@ -39,7 +39,29 @@ stored_part l at (x ∷ t) zero e = sym (sets_past l at (x ∷ t) (omega arith))
 stored_part l at (x ∷ t) (suc n) e =
     stored_part (set l at x) (suc at) t n (omega (arith, lib.ListN.length-set l at x))
 
--- ---- a number's bytes
+-- ---- a number's bytes: what was to write is what is left to write
+
+pub little_start : (l : List ℕ) (at w n : ℕ) → stored l (at + 0) (little (w - 0) n) ≡ stored l at (little w n)
+little_start l at w n =
+    let a : at + 0 ≡ at = omega arith in
+    let b : w - 0 ≡ w = omega arith in
+    λ j. stored l (a j) (little (b j) n)
+
+pub little_on : (l : List ℕ) (at w i m : ℕ) → i < w → stored (set l (at + i) (m % 256)) (at + (i + 1)) (little (w - (i + 1)) (m / 256)) ≡ stored l (at + i) (little (w - i) m)
+unfolding stored basics
+little_on l at w i m h =
+    let a : at + (i + 1) ≡ suc (at + i) = omega arith in
+    let b : suc (w - (i + 1)) ≡ w - i = omega arith in
+    ap (λ (k : ℕ). sets (set l (at + i) (m % 256)) k (little (w - (i + 1)) (m / 256))) a
+    ∙ ap (λ (k : ℕ). sets l (at + i) (little k m)) b
+
+pub little_done : (l : List ℕ) (at w i m : ℕ) → w ≤ i → l ≡ stored l (at + i) (little (w - i) m)
+unfolding stored basics
+little_done l at w i m h =
+    let b : 0 ≡ w - i = omega arith in
+    ap (λ (k : ℕ). sets l (at + i) (little k m)) b
+
+-- the same of all eight bytes
 
 take_little : (w k n : ℕ) → w ≤ k → take w (little k n) ≡ little w n
 unfolding little
@@ -86,7 +108,7 @@ noted_one out bs p after left k (some_left, less) e size =
       out_is = e ∙ ap (λ (t : Bool). choose t out (stored out p.at bs)) b;
     }
 
-pub field_stored : (out : List ℕ) (at kind w n : ℕ) → stored (stored out at (kind ∷ [])) (at + 1) (little w n) ≡ stored out at (kind ∷ little w n)
+pub field_stored : (out : List ℕ) (at kind w n : ℕ) → stored (set out at kind) (at + 1) (little w n) ≡ stored out at (kind ∷ little w n)
 unfolding stored
 field_stored out at kind w n =
     let a : at + 1 ≡ suc at = omega arith in
@@ -95,7 +117,7 @@ field_stored out at kind w n =
 pub field_size : (kind w n : ℕ) → 1 + w ≡ length (kind ∷ little w n)
 field_size kind w n = omega (arith, length-little w n)
 
-pub text_stored : (out : List ℕ) (at kind : ℕ) (t : List ℕ) → stored (stored (stored out at (kind ∷ [])) (at + 1) (little 4 (length t))) (at + 5) t ≡ stored out at (kind ∷ write_text t)
+pub text_stored : (out : List ℕ) (at kind : ℕ) (t : List ℕ) → stored (stored (set out at kind) (at + 1) (little 4 (length t))) (at + 5) t ≡ stored out at (kind ∷ write_text t)
 unfolding stored nodes_rules
 text_stored out at kind t =
     let a : at + 1 ≡ suc at = omega arith in

@@ -7,7 +7,7 @@ use leaf_nodes::Fault;
 use refusals::Refusal;
 use std::io;
 use std::io::Write;
-use stored_cases::unhex;
+use stored_cases::{Gathered, unhex};
 
 // at most so many bytes are read
 const INPUT: usize = 131072;
@@ -51,7 +51,7 @@ fn run(text: &[u8], bytes: &mut [u8], out: &mut impl Write) -> io::Result<()> {
 fn main(rt: HostRuntime) -> io::Result<()> {
     let mut space = [0u8; INPUT];
     let n = whole_input::read_full(&mut rt.reader(), &mut space)?;
-    let mut out = io::writer(&rt);
+    let mut out = Gathered::new(io::writer(&rt));
     let mut bytes = [0u8; 8192];
     run(&space[..n], &mut bytes, &mut out)?;
     out.flush()

@@ -10,7 +10,7 @@ ghost use Rattle.rules.specs.Layout.{map_bytes};
 
 use std::io;
 use std::io::Write;
-use stored_cases::number;
+use stored_cases::{Gathered, number};
 
 // at most so many bytes are read
 const INPUT: usize = 4096;
@@ -101,7 +101,7 @@ fn run(input: &[u8], out: &mut impl Write) -> io::Result<()> {
 fn main(rt: HostRuntime) -> io::Result<()> {
     let mut space = [0u8; INPUT];
     let n = whole_input::read_full(&mut rt.reader(), &mut space)?;
-    let mut out = io::writer(&rt);
+    let mut out = Gathered::new(io::writer(&rt));
     run(&space[..n], &mut out)?;
     out.flush()
 }

@@ -13,7 +13,7 @@ ghost use Rattle.leaf_lists.specs.Lists.{lent_of};
 use leaf_lists::Lists;
 use std::io;
 use std::io::Write;
-use stored_cases::{Hex, digit, unhex};
+use stored_cases::{Gathered, Hex, digit, unhex};
 
 // at most so many bytes are read
 const INPUT: usize = 262144;
@@ -80,9 +80,23 @@ fn tell_truth(told: u32, truth: u64, out: &mut impl Write) -> io::Result<()> {
     }
 }
 
+// Bytes in hex, part by part: a datum can be long, and `Hex` shows each byte by itself.
+fn print_hexed(bytes: &[u8], out: &mut impl Write) -> io::Result<()> {
+    let mut digits = [0u8; 512];
+    for part in bytes.chunks(256) {
+        let n = text_numbers::print_hex(part, &mut digits, 0);
+        out.write_all(&digits[..n.min(512)])?;
+    }
+    Ok(())
+}
+
 fn tell_datum(told: u32, datum: &[u8], out: &mut impl Write) -> io::Result<()> {
     match told {
-        0 => writeln!(out, "datum={}", Hex(datum)),
+        0 => {
+            write!(out, "datum=")?;
+            print_hexed(datum, out)?;
+            writeln!(out)
+        }
         _ => tell(told, out),
     }
 }
@@ -338,7 +352,7 @@ fn run(input: &[u8], out: &mut impl Write) -> io::Result<()> {
 fn main(rt: HostRuntime) -> io::Result<()> {
     let mut space = [0u8; INPUT];
     let n = whole_input::read_full(&mut rt.reader(), &mut space)?;
-    let mut out = io::writer(&rt);
+    let mut out = Gathered::new(io::writer(&rt));
     run(&space[..n], &mut out)?;
     out.flush()
 }

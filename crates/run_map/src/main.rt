@@ -8,7 +8,7 @@ ghost use Rattle.std.specs.Prelude.{◌≡◌, ◌<◌, length};
 use leaf_map::State;
 use std::io;
 use std::io::Write;
-use stored_cases::{Spaced, digit};
+use stored_cases::{Gathered, Spaced, digit};
 
 const WIDTH: usize = 4;
 
@@ -56,7 +56,7 @@ fn run(map: &mut [u8], input: &[u8], out: &mut impl Write) -> io::Result<()>
 fn main(rt: HostRuntime) -> io::Result<()> {
     let mut space = [0u8; INPUT];
     let n = whole_input::read_full(&mut rt.reader(), &mut space)?;
-    let mut out = io::writer(&rt);
+    let mut out = Gathered::new(io::writer(&rt));
     let mut map = [0u8; 2];
     run(&mut map, &space[..n], &mut out)?;
     out.flush()

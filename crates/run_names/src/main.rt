@@ -11,7 +11,7 @@ use leaf_names::Key;
 use std::cmp::Ordering;
 use std::io;
 use std::io::Write;
-use stored_cases::{Hex, digit};
+use stored_cases::{Gathered, Hex, digit};
 
 // at most so many bytes are read
 const INPUT: usize = 65536;
@@ -157,7 +157,7 @@ fn run(text: &[u8], out: &mut impl Write) -> io::Result<()> {
 fn main(rt: HostRuntime) -> io::Result<()> {
     let mut space = [0u8; INPUT];
     let n = whole_input::read_full(&mut rt.reader(), &mut space)?;
-    let mut out = io::writer(&rt);
+    let mut out = Gathered::new(io::writer(&rt));
     run(&space[..n], &mut out)?;
     out.flush()
 }

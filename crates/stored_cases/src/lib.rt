@@ -2,11 +2,13 @@
 // memory is taken.
 #![tactic(auto)]
 
+mod gathered;
 mod shown;
 
 ghost use Rattle.std.specs.Prelude.{◌≡◌, ℕ, ◌+◌, ◌*◌, ◌<◌, ◌≤◌, length, Some, None, slice_index};
 ghost use Rattle.stored_cases.specs.Digits.{digit_of, number_of, pair_of};
 
+pub use gathered::Gathered;
 pub use shown::{Hex, Spaced};
 
 // The digit that a byte writes; letters are lower case.

@@ -15,7 +15,7 @@ use Rattle.rules.specs.Numbers.{bits64}
 use Rattle.rules.specs.Text.{digit, digits_before, decimal, signed, hex, text_rules}
 use Rattle.std.specs.Fmt as std
 use Rattle.std.specs.Int.{cast_signed}
-use Rattle.std.specs.Prelude.{ℤ, pos, negsuc}
+use Rattle.std.specs.Prelude.{ℤ, pos, negsuc, Option, Some, None, IfSome, IfNone, unwrap_or}
 use mir.Val.{sel, of_z}
 use Rattle.std.proofs.lemmas.Int.{to_z_pos, of_z-to_z}
 use Rattle.std.proofs.Common.{w64}
@@ -100,6 +100,22 @@ short (suc d) n h =
 
 pub decimal_short : (n : ℕ) → n < bits64 → length (decimal n) ≤ 20
 decimal_short n h = let e : 10 ^ 20 ≡ 100000000000000000000 = refl in short 19 n (omega (arith, e))
+
+pub one_at_least : (n : ℕ) → 1 ≤ length (decimal n)
+one_at_least n =
+    elim (dec_lt n 10) [ yes k ↦ omega (arith, length-one n k) | no k ↦ omega (arith, length_more n (omega arith)) ]
+
+-- one digit more than the power of ten that is at most the number
+pub power_digits : (k n : ℕ) → 10 ^ k ≤ n → n < 10 * 10 ^ k → 1 + k ≡ length (decimal n)
+power_digits zero n p q = omega (arith, length-one n (omega arith))
+power_digits (suc k) n p q =
+    let e : 10 ^ suc k ≡ 10 ^ k * 10 = pow-suc 10 k in
+    let some : 1 ≤ 10 ^ k = omega arith in
+    omega (arith, length_more n (omega (arith, e)), power_digits k (n / 10) (omega (arith, e)) (omega (arith, e)))
+
+pub log_digits : (n : ℕ) (o : Option ℕ) → IfNone o (n ≡ 0) → IfSome o (λ k. 10 ^ k ≤ n) → IfSome o (λ k. n < 10 * 10 ^ k) → 1 + unwrap_or o 0 ≡ length (decimal n)
+log_digits n None z p q = sym (length-one n (omega (arith, z)))
+log_digits n (Some k) z p q = power_digits k n p q
 
 -- ---- std's digits
 

@@ -73,6 +73,13 @@ pub fn print_text(t: &[u8], out: &mut [u8], at: usize) -> usize
     end
 }
 
+// How many digits a number has.
+pub fn width(n: u64) -> usize
+    ensures { (result ≡ length (rules.decimal n)) × (result ≤ 20) }
+{
+    1 + n.checked_ilog10().unwrap_or(0) as usize
+}
+
 // Writes a number's digits from a place on, and answers their end.
 pub fn print_decimal(n: u64, out: &mut [u8], at: usize) -> usize
     requires { at + length (rules.decimal n) ≤ length out.old }

@@ -6,18 +6,16 @@ use Rattle.heap_needs.proofs.is_met.Goals as goal
 
 pub returns-then-same : goal.returns-then-same
 returns-then-same c =
-    let l = c.loop-n in
-    sym (l.invariant ∙ here c.args.names.now c.args.datum.now c.args.name.now c.args.scope l.n-index _ _ c.loop-n-test.true refl c.if-n-scope.true (sym c.same.ensures ∙ c.if-same.true))
+    sym (c.loop-i.invariant ∙ here c.args.names.now c.args.datum.now c.args.name.now c.args.scope c.loop-i.i _ _ c.loop-i-test.true c.loop-i.auto.i refl c.if-n-scope.true (sym c.same.ensures ∙ c.if-same.true))
 
-pub loop-n-preserved : goal.loop-n-preserved
-loop-n-preserved c =
-    let l = c.loop-n in
+pub loop-i-preserved : goal.loop-i-preserved
+loop-i-preserved c =
     elim c.else-n-scope.branch [
       | else-n-scope-via-else-n-scope w ↦
-          l.invariant ∙ other_scope c.args.names.now c.args.datum.now c.args.name.now c.args.scope l.n-index _ _ c.loop-n-test.true refl w.if-n-scope.false
+          c.loop-i.invariant ∙ other_scope c.args.names.now c.args.datum.now c.args.name.now c.args.scope c.loop-i.i _ _ c.loop-i-test.true c.loop-i.auto.i refl w.if-n-scope.false
       | else-n-scope-via-then-n-scope+else-same w ↦
-          l.invariant ∙ other_text c.args.names.now c.args.datum.now c.args.name.now c.args.scope l.n-index _ _ c.loop-n-test.true refl w.if-n-scope.true (sym w.same.ensures ∙ w.if-same.false)
+          c.loop-i.invariant ∙ other_text c.args.names.now c.args.datum.now c.args.name.now c.args.scope c.loop-i.i _ _ c.loop-i-test.true c.loop-i.auto.i refl w.if-n-scope.true (sym w.same.ensures ∙ w.if-same.false)
     ]
 
 pub returns : goal.returns
-returns c = sym (c.loop-n.invariant ∙ none_met c.args.names.now c.args.datum.now c.args.name.now c.args.scope c.loop-n.n-index c.loop-n-test.false)
+returns c = sym (c.loop-i.invariant ∙ none_met c.args.names.now c.args.datum.now c.args.name.now c.args.scope c.loop-i.i c.loop-i-test.false)

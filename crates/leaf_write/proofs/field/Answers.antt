@@ -12,4 +12,4 @@ pub returns-in_err-left : goal.returns-in_err-left
 returns-in_err-left c = noted_none c.args.out.now _ c.args.p (omega (arith, c.in_err-left.ensures)) c.from_residual.ensures
 
 pub returns : goal.returns
-returns c = noted_one c.args.out.now _ c.args.p _ _ _ c.in_ok-left.ensures (c.put_little.ensures ∙ ap (λ (l : List ℕ). stored l (c.args.p.at + 1) (little c.args.w c.args.n)) c.put_bytes.ensures ∙ field_stored c.args.out.now c.args.p.at c.args.kind c.args.w c.args.n) (field_size c.args.kind c.args.w c.args.n)
+returns c = noted_one c.args.out.now _ c.args.p _ _ _ c.in_ok-left.ensures (c.put_little.ensures ∙ ap (λ (l : List ℕ). stored l (c.args.p.at + 1) (little c.args.w c.args.n)) c.put_byte.ensures ∙ field_stored c.args.out.now c.args.p.at c.args.kind c.args.w c.args.n) (field_size c.args.kind c.args.w c.args.n)

@@ -2,7 +2,7 @@
 use Rattle.std.proofs.Common.{true, false, ap, ◌∙◌}
 use Rattle.heap_tally.specs.Pass.{tally_of, mentioned}
 use Rattle.heap_tally.proofs.StepLaws.{counted_is, as_step, label_stays}
-use Rattle.heap_tally.proofs.Tally.step.Goals as goal
+use Rattle.heap_tally.proofs.tallied.Tally.step.Goals as goal
 
 pub returns-in-Ref : goal.returns-in-Ref
 returns-in-Ref c =
